@@ -1,0 +1,15 @@
+pub mod Chains
+pub mod Apart
+pub mod Goals
+pub mod Pigeonhole
+pub mod Pieces
+pub mod Numerals
+pub mod Cuts
+pub mod Fields
+pub mod Steps
+pub mod Records
+pub mod Taken
+pub mod Lawful
+pub mod Stands
+pub mod Spelled
+pub mod Exactly

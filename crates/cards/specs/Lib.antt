@@ -1,0 +1,4 @@
+pub mod Content
+pub mod Reading
+pub mod Spelling
+pub mod Faults

@@ -1,0 +1,5 @@
+pub mod Lists
+pub mod Patterned
+pub mod Told
+pub mod Lasts
+pub mod Counted

@@ -1,0 +1,7 @@
+-- The counts of a draft are those of what it says.
+use borrow.Author.Needs.{needs}
+use Rattle.drafts.proofs.Lists.{count}
+use Rattle.drafts.proofs.places.variable_place.Needs as need
+
+pub returns : need.returns
+returns c = search (needs, count)

@@ -1,0 +1,4 @@
+pub mod Each
+pub mod Moved
+pub mod Numbered
+pub mod Sets
