@@ -39,7 +39,7 @@ pub enum Failure {
     Astray,
 }
 
-pub impl From<AllocError> for Failure as FailureFromAlloc {
+impl From<AllocError> for Failure as FailureFromAlloc {
     fn from(_e: AllocError) -> Failure {
         Failure::Memory
     }

@@ -47,10 +47,14 @@ reading-err f NoVariable bytes h t = absurd t
 reading-err f (NoEffect l) bytes h t = absurd t
 reading-err f TooManyStates bytes h t = absurd t
 
-pub tells-err : {U X : Type 0} (f : U → X) (e : CardFault) (w : Result X CardFault) → w ≡ Err e → Tells f (Err e) w
+tells-err : {U X : Type 0} (f : U → X) (e : CardFault) (w : Result X CardFault) → w ≡ Err e → Tells f (Err e) w
 tells-err f Memory w t = tt
 tells-err f TooLong w t = t
 tells-err f (InLine d) w t = t
 tells-err f NoVariable w t = t
 tells-err f (NoEffect l) w t = t
 tells-err f TooManyStates w t = t
+
+-- a fault of the whole card, of which s was read
+pub reading-whole : {U : Type 0} (f : U → Reading) (e : CardFault) (bytes : List ℕ) (s : Reading) → length bytes ≤ 16384 → readOn 1 nothing (pieces 10 bytes) ≡ Ok s → Err e ≡ whole s → Tells f (Err e) (reading bytes)
+reading-whole f e bytes s h r w = tells-err f e (reading bytes) (reading-on bytes (Ok s) h r ∙ sym w)

@@ -1,10 +1,8 @@
 -- What a draft says.
-use mathlib.Core.List.{List, map}
-use Prim.Native.Nat.{ℕ}
+use mathlib.Core.List.{map}
 use Rattle.std.specs.Of.Vec.{vec-items}
-use Rattle.std.specs.declared.alloc.Global.{Global}
 use Rattle.fields.specs.Fields.{plain, textOf, lineOf}
-use Rattle.cards.specs.Content.{Var, Oper}
+use Rattle.cards.specs.Content.{Var}
 use Rattle.cards.specs.Reading.{Placed, Reading}
 use Rattle.drafts.specs.declared.parts.Variable.{Variable}
 use Rattle.drafts.specs.declared.parts.DraftOperator.{DraftOperator}

@@ -1,5 +1,4 @@
 // Reads a card into a draft: what its lines say, or the first fault.
-ghost use Prim.Native.Nat.{_≤_};
 ghost use Rattle.fields.specs.Text.{pieces};
 ghost use Rattle.cards.specs.Faults.{Tells};
 ghost use Rattle.cards.specs.Reading.{readOn, nothing, reading};
@@ -23,6 +22,8 @@ pub use parts::Draft;
 pub use parts::DraftOperator;
 pub use parts::Variable;
 
+const MOST_BYTES: usize = 16_384;
+
 fn read_lines<'a>(heap: Global, bytes: &'a [u8]) -> Result<Draft<'a>, CardFault>
     ensures { λ r. ⌜ TellsLine said r (readOn 1 nothing (pieces 10 (now (bytes .entry)))) ⌝ }
 {
@@ -44,7 +45,7 @@ fn read_lines<'a>(heap: Global, bytes: &'a [u8]) -> Result<Draft<'a>, CardFault>
 pub fn draft<'a>(heap: Global, bytes: &'a [u8]) -> Result<Draft<'a>, CardFault>
     ensures { λ r. ⌜ Tells said r (reading (now (bytes .entry))) ⌝ }
 {
-    if bytes.len() > 16_384 {
+    if bytes.len() > MOST_BYTES {
         return Err(CardFault::TooLong);
     }
     let read = read_lines(heap, bytes)?;

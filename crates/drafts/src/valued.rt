@@ -4,7 +4,6 @@ ghost use mathlib.Core.List.{map};
 ghost use Prim.Native.Nat.{ℕ, _<_, _≤_};
 ghost use lib.ListN.{length, getD};
 ghost use Rattle.std.specs.Of.Vec.{vec-items};
-ghost use Rattle.std.specs.Vec.{made};
 ghost use Rattle.cards.specs.Content.{sizes};
 ghost use Rattle.cards.specs.Reading.{valuedOf, member, addValued, makePrecondition, makeFact};
 ghost use Rattle.drafts.specs.View.{plainVar};

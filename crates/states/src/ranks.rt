@@ -41,7 +41,7 @@ pub impl From<AllocError> for StateRefusal as StateRefusalFromAlloc {
     ghost converts = { λ _ r. r ≡ Memory };
 
     fn from(_e: AllocError) -> StateRefusal {
-        StateRefusal::Memory
+        Self::Memory
     }
 }
 

@@ -1,6 +1,5 @@
 -- The tests of the whole card, in their order.
-use mathlib.Core.Path.{sym, ap, _∙_}
-use Rattle.std.specs.declared.result.Result.the-variants.{Ok, Err}
+use mathlib.Core.Path.{sym, _∙_}
 use Rattle.std.proofs.shelf.Results.{err-from-errBy}
 use Rattle.drafts.proofs.Counted.{whole-none, whole-some, states-test}
 use Rattle.drafts.proofs.whole.check_whole.Needs as need
