@@ -1,0 +1,12 @@
+-- Once each place is passed, no key is left.
+use native.Mathlib.Omega.{arith}
+use Rattle.lists.proofs.Nones.{none-all}
+use Rattle.scan.proofs.ScanWaitingList.clear.Needs as need
+
+pub returns : need.returns
+returns g c =
+    record {
+      sized = c .loop-i .inv .0;
+      none = none-all _ (c .loop-i .i) (omega (arith, c .loop-i .self .keys .ok .0)) (c .loop-i .inv .1);
+      still = tt;
+    }
