@@ -45,8 +45,6 @@ pub fn is_sound<E: Estimator>(pile: &E, task: &Task, costs: &[u16], barred: &[bo
     ensures decides { λ r. ⌜ Decides r (Sound (modelOf (now (task .entry))) (now (costs .entry)) (now (barred .entry)) (E·Estimator .suits (now (pile .entry))) (E·Estimator .shares (now (pile .entry)))) ⌝ }
     ensures bounds { λ r. ⌜ (r ≡ true → Bounds (modelOf (now (task .entry))) (Unbarred (now (costs .entry)) (now (barred .entry))) (price (now (costs .entry))) (E·Estimator .heights (now (pile .entry)))) ⌝ }
 {
-    if !pile.is_for(task) {
-        return false;
-    }
-    first_overcharged(pile, costs, barred).is_none()
+    let fair = first_overcharged(pile, costs, barred).is_none();
+    pile.is_for(task) && fair
 }

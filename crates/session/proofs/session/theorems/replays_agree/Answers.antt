@@ -1,0 +1,5 @@
+use Rattle.session.proofs.Agree.{replays-agree}
+use Rattle.session.proofs.session.theorems.replays_agree.Needs as need
+
+pub returns : need.returns
+returns c = replays-agree

@@ -1,0 +1,11 @@
+pub mod Rows
+pub mod Sound
+pub mod Refusals
+pub mod Bench
+pub mod Opening
+pub mod Changes
+pub mod Begins
+pub mod Tickets
+pub mod Trials
+pub mod Calls
+pub mod Checks
