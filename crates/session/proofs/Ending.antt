@@ -16,7 +16,7 @@ use Rattle.session.specs.Rows.{rowAt}
 use Rattle.session.specs.Sound.{Ready}
 use Rattle.session.specs.Bench.{Bench, withState, withStep, withWear}
 use Rattle.session.specs.Begins.{Begins, BeginsUnless, hindered}
-use Rattle.session.specs.Changes.{finished, held, kept, under}
+use Rattle.session.specs.Changes.{finished, held, under}
 use Rattle.session.specs.declared.session.refusal.Refusal.{Refusal}
 use Rattle.session.specs.declared.session.refusal.Refusal.the-variants.{Unmet, NoStep}
 

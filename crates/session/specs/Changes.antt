@@ -1,5 +1,5 @@
 -- What each change leads to: the bench after it, or why it is refused.
-use mathlib.Core.Bool.{Bool, true, false, cond}
+use mathlib.Core.Bool.{Bool, false, cond}
 use Prim.Native.Nat.{ℕ, _+_, min}
 use lib.Dec.{ltb, eqb}
 use lib.ListN.{length, getD, set}

@@ -8,7 +8,7 @@ use Rattle.std.specs.declared.result.Result.the-variants.{Ok, Err}
 use Rattle.std.specs.shelf.Lists.{All}
 use Rattle.sas.specs.Model.{Model}
 use Rattle.sas.specs.States.{State}
-use Rattle.session.specs.Bench.{Bench, bench, fresh}
+use Rattle.session.specs.Bench.{bench, fresh}
 use Rattle.session.specs.declared.session.Session.{Session}
 use Rattle.session.specs.declared.session.refusal.Refusal.{Refusal}
 use Rattle.session.specs.declared.session.refusal.Refusal.the-variants.{NoSuch, CostTooHigh, StepUnderWay, Barred, Unmet, NoStep, OutsideGoal, Memory}

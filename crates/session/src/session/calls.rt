@@ -1,5 +1,4 @@
 // Calls as values, and a session that makes a list of them.
-ghost use mathlib.Core.Path.{_≡_};
 ghost use Rattle.session.specs.Begins.{leads};
 ghost use Rattle.session.specs.Bench.{bench};
 ghost use Rattle.session.specs.Calls.{After, Leads, Replayed};

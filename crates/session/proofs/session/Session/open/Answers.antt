@@ -8,7 +8,7 @@ use Rattle.std.specs.declared.option.Option.the-variants.{None}
 use Rattle.std.proofs.shelf.Lists.{length-map}
 use Rattle.sas.specs.States.{State}
 use Rattle.tasks.specs.View.{modelOf}
-use Rattle.session.specs.Rows.{freed, table}
+use Rattle.session.specs.Rows.{freed}
 use Rattle.session.proofs.Holding.{ranked-state, idle-known, idle-ready}
 use Rattle.session.proofs.session.Session.open.Needs as need
 
