@@ -1,12 +1,9 @@
 // What stands above a session: steps that are begun and done, and trials that leave the session as it was.
 ghost use mathlib.Core.List.{[], _∷_};
 ghost use mathlib.Core.Path.{_≡_};
-ghost use Rattle.following.specs.Both.{first};
 ghost use Rattle.session.specs.Bench.{bench};
 ghost use Rattle.session.specs.Begins.{Begins};
 ghost use Rattle.session.specs.Calls.{Replayed};
-ghost use Rattle.session.specs.Changes.{said};
-ghost use Rattle.session.specs.Trials.{tried};
 ghost use Rattle.session.specs.declared.session.calls.Call.the-variants.{Begin, Done};
 ghost use Rattle.std.specs.Results.{Cases};
 ghost use Rattle.std.specs.declared.result.Result.the-variants.{Err};
@@ -26,20 +23,16 @@ pub fn step(session: &mut Session, operator: usize) -> Result<(), Refusal>
     }
 }
 
-// Tries a cost for one operator and then for another, up to the first refusal.
-pub fn try_both(session: &mut Session, a: usize, b: usize, cost: u32) -> Result<(), Refusal>
-    ensures answer { λ r. ⌜ r ≡ said (first (tried a cost (bench (now (session .entry)))) (tried b cost (bench (now (session .entry))))) ⌝ }
-    ensures same { λ _. ⌜ bench (now (session .exit)) ≡ bench (now (session .entry)) ⌝ }
+// Makes a trial of one operator's row and then one of another's, the second only where `both`: each row is back
+// when its trial ends, on the early return too.
+pub fn try_rows(session: &mut Session, a: usize, b: usize, cost: u32, both: bool)
+    ensures { λ _. ⌜ bench (now (session .exit)) ≡ bench (now (session .entry)) ⌝ }
 {
     {
-        let trial = session.trial(a, cost, false);
-        if let Some(refusal) = trial.refusal() {
-            return Err(refusal);
+        let _trial = session.trial(a, cost, false);
+        if !both {
+            return;
         }
     }
-    let trial = session.trial(b, cost, true);
-    match trial.refusal() {
-        Some(refusal) => Err(refusal),
-        None => Ok(()),
-    }
+    let _trial = session.trial(b, cost, true);
 }

@@ -196,10 +196,8 @@ fn trials(rt: &LibcRuntime, session: &mut Session) -> Result<(), AnyError> {
     ];
     ask(rt, session, &cases)?;
     check(rt, session, "check the plan", &PLAN)?;
-    let both = following::try_both(session, LOWER, SPIN, 9);
-    tell(rt, "two trials", both)?;
-    let both = following::try_both(session, LOWER, NONE, 9);
-    tell(rt, "two trials, one of none", both)?;
+    following::try_rows(session, LOWER, SPIN, 9, true);
+    following::try_rows(session, LOWER, NONE, 9, false);
     check(rt, session, "check the plan", &PLAN)?;
     session.make(
         &[

@@ -32,7 +32,7 @@ impl Drop for Trial<'_> {
 
 impl Trial<'_> {
     // Why the trial was refused, if it was.
-    pub fn refusal(&self) -> Option<Refusal>
+    pub(super) fn refusal(&self) -> Option<Refusal>
         ensures { λ r. ⌜ r ≡ now (self .entry) .refusal ⌝ }
     {
         self.refusal
