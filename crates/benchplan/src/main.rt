@@ -1,4 +1,6 @@
 // Reads a card from standard input and prints a cheapest plan, or why there is none.
+#![tactic(auto)]
+
 use crate::answer::{Answer, plan_card};
 use crate::input::card_bytes;
 use anyhow::anyhow;

@@ -1,5 +1,7 @@
 // Best-first search that settles each node once, over any graph with operator costs and a consistent lower bound: each
 // function states theorems and does nothing else.
+#![tactic(auto)]
+
 ghost use Rattle.bestfirst.specs.Theorems.{Bounds, Ends, Fails, Finds, LeadsBack, LinksOpen, LinksRelax, LinksStart, Looks, Opens, Settles, Starts, Tabulates, TakesNext};
 
 // The invariant holds at the start.

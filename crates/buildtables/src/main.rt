@@ -1,5 +1,7 @@
 // Reads a card from standard input, builds the table of each T line at the card's costs, and prints for each how many
 // projected states there are, from how many of them the goal is reached, and the sum of their entries.
+#![tactic(auto)]
+
 use anyhow::anyhow;
 use heap::Heap;
 use keys::Distance;

@@ -1,4 +1,6 @@
 // Reads cards at the limits of what a card may be, and prints what the reader answers to each.
+#![tactic(auto)]
+
 use anyhow::anyhow;
 use cards::CardFault;
 use states::state_count;

@@ -1,4 +1,6 @@
 // What a card says, or why it is refused: the definitions that the reader is proved against, and the theorems above them.
+#![tactic(auto)]
+
 ghost use Rattle.std.specs.Prelude.{◌≡◌};
 ghost use Rattle.cards.specs.declared.CardFault.TheVariants.{InLine, Memory};
 ghost use Rattle.cards.specs.Faults.{card_number, card_place};

@@ -1,4 +1,6 @@
 // Reads a card into a draft: what its lines say, or the first fault.
+#![tactic(auto)]
+
 ghost use Rattle.fields.specs.Text.{pieces};
 ghost use Rattle.cards.specs.Faults.{Tells};
 ghost use Rattle.cards.specs.Reading.{read_on, nothing, reading};

@@ -1,4 +1,6 @@
 // What can be done with any waiting list, proved from what all lists promise.
+#![tactic(auto)]
+
 ghost use Rattle.std.specs.Prelude.{◌≡◌, MatchResult};
 ghost use Rattle.drains.specs.Drained.{Drained};
 

@@ -1,4 +1,6 @@
 // Estimators, which bound the cost of every run to a goal from below; layers of them; and when a pile of them is sound.
+#![tactic(auto)]
+
 pub mod blind;
 pub mod estimator;
 pub mod higher;

@@ -1,4 +1,6 @@
 // The text of a card: lines, fields, names and numbers.
+#![tactic(auto)]
+
 mod faults;
 mod field;
 mod lines;

@@ -1,4 +1,6 @@
 // What stands above a session: steps that are begun and done, and trials that leave the session as it was.
+#![tactic(auto)]
+
 ghost use Rattle.std.specs.Prelude.{◌≡◌, [], ◌∷◌, Err, MatchResult};
 ghost use Rattle.session.specs.Bench.{bench};
 ghost use Rattle.session.specs.Begins.{Begins};

@@ -1,4 +1,6 @@
 // A waiting list as a binary heap of ranks.
+#![tactic(auto)]
+
 mod sift;
 mod store;
 

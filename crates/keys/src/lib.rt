@@ -1,4 +1,6 @@
 // The kinds of keys by which a waiting list is ordered.
+#![tactic(auto)]
+
 ghost use Rattle.std.specs.Prelude.{◌≡◌, ◌⊎◌, Bool, true, ◌<◌};
 ghost use Rattle.keys.specs.Orders.{by_number, by_pair};
 ghost use Rattle.std.proofs.Common.{rules};

@@ -1,4 +1,6 @@
 // Runs both waiting lists on the same puts and takes, and compares what they give.
+#![tactic(auto)]
+
 mod compare;
 mod numbers;
 mod run;

@@ -1,4 +1,6 @@
 // A waiting list: ranks below a capacity, each waiting under at most one key, taken by least key.
+#![tactic(auto)]
+
 ghost use Rattle.std.specs.Prelude.{◌≡◌, ℕ, ◌≤◌, None, Option};
 ghost use Rattle.lists.specs.Refusals.{refusal_number};
 ghost use Rattle.lists.specs.Waits.{Cleared, Put, Took};

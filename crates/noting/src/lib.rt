@@ -1,4 +1,6 @@
 // A waiting list that notes what is taken.
+#![tactic(auto)]
+
 ghost use Rattle.std.specs.Prelude.{◌≡◌, ◌≤◌, false, [], ◌∷◌, ◌++◌, if◌then◌else◌, Some, vec_len, vec_capacity};
 ghost use Rattle.lists.specs.Waits.{Cleared, Put, Took};
 ghost use Rattle.noting.specs.Notes.{Blank, Noted, Follows};

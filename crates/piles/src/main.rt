@@ -1,4 +1,6 @@
 // Asks a pile of three layers over the sample card's task for shares, heights and soundness.
+#![tactic(auto)]
+
 use crate::toll::Toll;
 use anyhow::anyhow;
 use estimators::{Blind, Estimator, Height, HigherOf, SumOf, first_overcharged, is_sound};

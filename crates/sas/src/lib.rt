@@ -1,5 +1,7 @@
 // Planning tasks as SAS+ has them, with operator costs: the parts that a task is made of, and the theorems about
 // states, steps and ranks that everything above rests on.
+#![tactic(auto)]
+
 ghost use Rattle.std.specs.Prelude.{◌≡◌, Decides, nat_eq};
 ghost use Rattle.std.specs.Ordering.{on, eq_of_both};
 ghost use Rattle.std.specs.Cmp.Rules.{comparing};

@@ -1,4 +1,6 @@
 // A waiting list that looks through all its ranks for the least key.
+#![tactic(auto)]
+
 ghost use Rattle.std.specs.Prelude.{◌≡◌, IfOk};
 ghost use Rattle.lists.specs.Waits.{Fresh};
 ghost use Rattle.scan.specs.Means.{scan_places, scan_waiting, scan_ordered};

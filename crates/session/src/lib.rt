@@ -1,5 +1,7 @@
 // A session over a task: rows of costs and bars, steps with tickets, wear, trials that put their row back, and checks of
 // given steps.
+#![tactic(auto)]
+
 mod rows;
 mod session;
 

@@ -1,4 +1,6 @@
 // Runs sessions on the sample card and prints what each call answers.
+#![tactic(auto)]
+
 use anyhow::anyhow;
 use session::{Call, Refusal, Returned, Session};
 use std::alloc::{AllocError, Global};

@@ -1,4 +1,6 @@
 // The states of a task: their ranks, the steps between them, and where the goal holds; and equality of tasks.
+#![tactic(auto)]
+
 pub mod counts;
 pub mod equality;
 pub mod ranks;

@@ -1,4 +1,6 @@
 // Builds and opens tables of the sample card, and prints their entries, heights and each refusal.
+#![tactic(auto)]
+
 use anyhow::anyhow;
 use estimators::{Estimator, Height, HigherOf, SumOf};
 use heap::Heap;

@@ -1,4 +1,6 @@
 // Pattern tables: the least cost from each projected state to the goal.
+#![tactic(auto)]
+
 mod building;
 mod input;
 mod look;

@@ -1,4 +1,6 @@
 // Tasks, which keep their rules by their type, and the cards that they are read from.
+#![tactic(auto)]
+
 pub mod card;
 pub mod task;
 

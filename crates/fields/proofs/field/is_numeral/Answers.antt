@@ -8,9 +8,9 @@ use Rattle.fields.proofs.field.is_numeral.Goals as goal
 pub loop-b-init : goal.loop-b-init
 loop-b-init c = search (rules, numeral_all)
 
-pub returns-then-not-is-digit : goal.returns-then-not-is-digit
-returns-then-not-is-digit c =
-    sym (c.loop-b.invariant ∙ all_more _ _ _ c.loop-b-test.true ∙ and_left _ _ (sym c.if-not-is-digit.ensures))
+pub returns-then-not-is_digit : goal.returns-then-not-is_digit
+returns-then-not-is_digit c =
+    sym (c.loop-b.invariant ∙ all_more _ _ _ c.loop-b-test.true ∙ and_left _ _ (sym c.if-not-is_digit.ensures))
 
 pub loop-b-preserved : goal.loop-b-preserved
 loop-b-preserved c = search (rules, all_more)

@@ -6,4 +6,4 @@ use Rattle.fields.proofs.lines.cut_line.Goals as goal
 
 pub returns-in-Some : goal.returns-in-Some
 returns-in-Some c =
-    c.by-first.ensures ∙ cut_on c.args.line c.args.text.now c.in-Some.first.now (left c.next.new.self) c.if-not-is-tidy.ensures c.if-is-skipped.ensures (sym c.new-fields.ensures ∙ c.in-Some.ensures)
+    c.by_first.ensures ∙ cut_on c.args.line c.args.text.now c.in-Some.first.now (left c.next.new.self) c.if-not-is_tidy.ensures c.if-is_skipped.ensures (sym c.new-fields.ensures ∙ c.in-Some.ensures)

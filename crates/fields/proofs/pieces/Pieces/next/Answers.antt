@@ -9,11 +9,11 @@ use Rattle.fields.proofs.pieces.Pieces.next.Goals.{then-n-text, else-n-text}
 
 pub returns : goal.returns
 returns c =
-    let xs = c.in-ok-text.text.now in
+    let xs = c.in_ok-text.text.now in
     let n = c.find-n.result in
     let s = c.args.self.now.at in
     let told = c.find-n.ensures in
-    let whole = ap (left_of s) c.in-ok-text.was in
+    let whole = ap (left_of s) c.in_ok-text.was in
     let same : n ≡ n - 0 = omega arith in
     elim c.if-n-text.branch [
       | then-n-text w ↦
