@@ -15,7 +15,7 @@ use Rattle.cards.specs.Spelling.{goal_text, variable_line, operator_line, patter
 use Rattle.cards.proofs.Apart.{distinct_passes}
 use Rattle.cards.proofs.Pigeonhole.{pigeonhole}
 use Rattle.cards.proofs.Cuts.{Inked, name_inked, name_short, decimal_inked, room, tabbed_tidy, cut_tabbed}
-use Rattle.cards.proofs.Fields.{bind_ok, name_at, number_at, variable_of_lem, add_valued_lem}
+use Rattle.cards.proofs.Fields.{bind_ok, name_at_lem, number_at_lem, variable_of_lem, add_valued_lem}
 use Rattle.cards.proofs.Steps.{VarKept, Way, R, E, add_to, WayRules, r_rules, e_rules, part_line, Fits, Kept, Few, kept_few, size_small, with_operators, fresh, more_part, PartStep, Step, v_line, o_line, r_line, e_line, t_line, step_kept, Steps}
 
 number_short : (n : ℕ) → n < 65536 → length (decimal n) ≤ 5
@@ -121,8 +121,8 @@ variable_read l s v h few e f t =
 
 operator_of_lem : (l : ℕ) (name : List ℕ) (cost : ℕ) → is_name name ≡ true → cost < 65536 → operator_of l name (decimal cost) ≡ Ok (record { line = l; oper = fresh name cost })
 operator_of_lem l name cost n h =
-    bind_ok (name_at l 2 name) name _ (name_at l 2 name n)
-    ∙ bind_ok (number_at l 3 0 65536 (decimal cost)) cost _ (number_at l 3 0 65536 cost (omega arith) h (omega arith))
+    bind_ok (name_at l 2 name) name _ (name_at_lem l 2 name n)
+    ∙ bind_ok (number_at l 3 0 65536 (decimal cost)) cost _ (number_at_lem l 3 0 65536 cost (omega arith) h (omega arith))
 
 operator_read : (l : ℕ) (s : Reading) (name : List ℕ) (cost : ℕ) → is_name name ≡ true → cost < 65536 → length s.opers < 128 → s.patterns ≡ [] → tidy (operator_line (fresh name cost)) ≡ true → line_on l s (operator_line (fresh name cost)) ≡ Ok (record { vars = s.vars; opers = s.opers ++ record { line = l; oper = fresh name cost } ∷ []; patterns = s.patterns })
 operator_read l s name cost n h few f t =
@@ -183,7 +183,7 @@ part_read w rules l s os o x few t k =
 indices_passes : (l n : ℕ) (vs ws : List ℕ) → n ≤ 16 → All (λ v. v < n) ws → indices_on l n vs (map decimal ws) ≡ Ok (vs ++ ws)
 indices_passes l n vs [] few h = ap Ok (sym (append-nil vs))
 indices_passes l n vs (w ∷ ws) few h =
-    bind_ok (number_at l (length vs + 2) 0 n (decimal w)) w (λ v. indices_on l n (vs ++ v ∷ []) (map decimal ws)) (number_at l (length vs + 2) 0 n w (omega arith) h.0 (omega (arith, h.0)))
+    bind_ok (number_at l (length vs + 2) 0 n (decimal w)) w (λ v. indices_on l n (vs ++ v ∷ []) (map decimal ws)) (number_at_lem l (length vs + 2) 0 n w (omega arith) h.0 (omega (arith, h.0)))
     ∙ indices_passes l n (vs ++ w ∷ []) ws few h.1
     ∙ ap Ok (append_assoc vs (w ∷ []) ws)
 

@@ -1,6 +1,5 @@
 -- The number of a card's fault, with its line and field; and answers that want of memory may replace.
 use Rattle.std.specs.Prelude.{◌≡◌, ℕ, Some, None, Ok, Err, Option, Result}
-use Rattle.fields.specs.declared.faults.LineFault.{LineFault}
 use Rattle.fields.specs.Lines.{line_number, line_place}
 use Rattle.cards.specs.declared.CardFault.{CardFault}
 use Rattle.cards.specs.declared.CardFault.TheVariants.{Memory, TooLong, InLine, NoVariable, NoEffect, TooManyStates}

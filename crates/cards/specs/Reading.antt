@@ -1,17 +1,17 @@
 -- How a card is read, line by line: what it says, or its first fault.
-use Rattle.std.specs.Prelude.{◌≡◌, ℕ, ◌+◌, Bool, true, false, cond, ◌&&◌, ◌||◌, List, [], ◌∷◌, ◌++◌, map, length, Some, None, Ok, Err, Option, Result, ◌==◌, nat_le, nat_lt, slice_index}
+use Rattle.std.specs.Prelude.{ℕ, ◌+◌, Bool, true, false, cond, ◌&&◌, ◌||◌, List, [], ◌∷◌, ◌++◌, map, length, Some, None, Ok, Err, Option, Result, ◌==◌, nat_le, nat_lt, slice_index}
 use Rattle.sas.specs.declared.Precondition.{Precondition}
 use Rattle.sas.specs.declared.Fact.{Fact}
 use Rattle.sas.specs.Model.{product}
 use Rattle.fields.specs.declared.faults.FieldFault.{FieldFault}
-use Rattle.fields.specs.declared.faults.FieldFault.TheVariants.{NoName, NoNumber, Twice}
+use Rattle.fields.specs.declared.faults.FieldFault.TheVariants.{Twice}
 use Rattle.fields.specs.declared.faults.LineFault.{LineFault}
-use Rattle.fields.specs.declared.faults.LineFault.TheVariants.{Bytes, Shape, Order, Many, InField}
+use Rattle.fields.specs.declared.faults.LineFault.TheVariants.{Order, Many, InField}
 use Rattle.fields.specs.Text.{pieces}
 use Rattle.fields.specs.Fields.{Plain, name, number, dash, text_of, name_field, number_field, number_or_dash, value_in}
 use Rattle.fields.specs.Lines.{Cut, variable, operator, precondition, effect, pattern, cut_line, map_ok}
 use Rattle.cards.specs.declared.CardFault.{CardFault}
-use Rattle.cards.specs.declared.CardFault.TheVariants.{Memory, TooLong, InLine, NoVariable, NoEffect, TooManyStates}
+use Rattle.cards.specs.declared.CardFault.TheVariants.{TooLong, InLine, NoVariable, NoEffect, TooManyStates}
 use Rattle.cards.specs.Content.{Var, Oper, Content, sizes}
 
 -- an operator with the line of its O record

@@ -1,10 +1,10 @@
 -- A field of a line: a name, a number or a dash, as its part of the text, with its line and its place there.
-use Rattle.std.specs.Prelude.{ℕ, Bool, cond, ◌&&◌, List, [], ◌∷◌, is_some, Some, None, Ok, Err, Option, Result, ◌==◌, nat_le, nat_lt}
+use Rattle.std.specs.Prelude.{ℕ, cond, ◌&&◌, List, [], ◌∷◌, is_some, Some, None, Ok, Err, Option, Result, ◌==◌, nat_le, nat_lt}
 use Rattle.fields.specs.Text.{is_name, numeral}
 use Rattle.fields.specs.declared.field.Field.{Field}
 use Rattle.fields.specs.declared.field.Field.TheVariants.{Name, Number, Dash}
 use Rattle.fields.specs.declared.faults.FieldFault.{FieldFault}
-use Rattle.fields.specs.declared.faults.FieldFault.TheVariants.{NoName, NoNumber, Twice}
+use Rattle.fields.specs.declared.faults.FieldFault.TheVariants.{NoName, NoNumber}
 
 -- a field as plain values: its bytes, its line and its place in the line, both from 1
 pub data Plain : Type 0 where
