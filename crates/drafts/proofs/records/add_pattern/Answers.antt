@@ -10,26 +10,26 @@ use Rattle.drafts.proofs.Lasts.{pattern_on, pattern_distinct}
 use Rattle.drafts.proofs.Told.{told_err}
 use Rattle.drafts.proofs.records.add_pattern.Goals as goal
 
-pub returns-in-err-vs : goal.returns-in-err-vs
-returns-in-err-vs c =
-    let p = err_from_is_err_and c.from-residual-in-err-vs.result c.from-residual-in-err-vs.ensures.1 in
+pub returns-in_err-vs : goal.returns-in_err-vs
+returns-in_err-vs c =
+    let p = err_from_is_err_and c.from_residual-in_err-vs.result c.from_residual-in_err-vs.ensures.1 in
     record {
       same = refl;
-      told = rw (p.1, p.2) (told_err (Unit {0}) (vec_items {X = ℕ} {Z = Global}) _ (said c.args.draft.now) _ _ (λ d q. pattern_on c.args.line (said c.args.draft.now) (left c.args.variables) c.len.result _ (Err d) (c.len.ensures ∙ count plain_var c.args.draft.now.variables) c.in-ok-pattern-place.ensures q) c.in-err-vs.ensures);
+      told = rw (p.1, p.2) (told_err (Unit {0}) (vec_items {X = ℕ} {Z = Global}) _ (said c.args.draft.now) _ _ (λ d q. pattern_on c.args.line (said c.args.draft.now) (left c.args.variables) c.len.result _ (Err d) (c.len.ensures ∙ count plain_var c.args.draft.now.variables) c.in_ok-pattern_place.ensures q) c.in_err-vs.ensures);
     }
 
-pub returns-in-err-distinct : goal.returns-in-err-distinct
-returns-in-err-distinct c =
-    let p = err_from_is_err_and c.from-residual-in-err-distinct.result c.from-residual-in-err-distinct.ensures.1 in
+pub returns-in_err-distinct : goal.returns-in_err-distinct
+returns-in_err-distinct c =
+    let p = err_from_is_err_and c.from_residual-in_err-distinct.result c.from_residual-in_err-distinct.ensures.1 in
     record {
       same = refl;
-      told = rw (p.1, p.2) (pattern_on c.args.line (said c.args.draft.now) (left c.args.variables) c.len.result _ (Ok (vec_items c.in-ok-vs.vs)) (c.len.ensures ∙ count plain_var c.args.draft.now.variables) c.in-ok-pattern-place.ensures c.in-ok-vs.ensures ∙ pattern_distinct c.args.line (said c.args.draft.now) (vec_items c.in-ok-vs.vs) c.as-slice.result.now _ c.as-slice.ensures.value c.in-err-distinct.ensures);
+      told = rw (p.1, p.2) (pattern_on c.args.line (said c.args.draft.now) (left c.args.variables) c.len.result _ (Ok (vec_items c.in_ok-vs.vs)) (c.len.ensures ∙ count plain_var c.args.draft.now.variables) c.in_ok-pattern_place.ensures c.in_ok-vs.ensures ∙ pattern_distinct c.args.line (said c.args.draft.now) (vec_items c.in_ok-vs.vs) c.as_slice.result.now _ c.as_slice.ensures.value c.in_err-distinct.ensures);
     }
 
 pub returns : goal.returns
 returns c =
-    let more = ap (map vec_items) c.in-ok-push.ensures.items ∙ map_push vec_items (vec_items c.args.draft.now.patterns) _ in
+    let more = ap (map vec_items) c.in_ok-push.ensures.items ∙ map_push vec_items (vec_items c.args.draft.now.patterns) _ in
     record {
       same = refl;
-      told = pattern_on c.args.line (said c.args.draft.now) (left c.args.variables) c.len.result _ (Ok (vec_items c.in-ok-vs.vs)) (c.len.ensures ∙ count plain_var c.args.draft.now.variables) c.in-ok-pattern-place.ensures c.in-ok-vs.ensures ∙ pattern_distinct c.args.line (said c.args.draft.now) (vec_items c.in-ok-vs.vs) c.as-slice.result.now _ c.as-slice.ensures.value c.in-ok-distinct.ensures ∙ ap (λ ts. Ok (record { vars = (said c.args.draft.now).vars; opers = (said c.args.draft.now).opers; patterns = ts })) (sym more);
+      told = pattern_on c.args.line (said c.args.draft.now) (left c.args.variables) c.len.result _ (Ok (vec_items c.in_ok-vs.vs)) (c.len.ensures ∙ count plain_var c.args.draft.now.variables) c.in_ok-pattern_place.ensures c.in_ok-vs.ensures ∙ pattern_distinct c.args.line (said c.args.draft.now) (vec_items c.in_ok-vs.vs) c.as_slice.result.now _ c.as_slice.ensures.value c.in_ok-distinct.ensures ∙ ap (λ ts. Ok (record { vars = (said c.args.draft.now).vars; opers = (said c.args.draft.now).opers; patterns = ts })) (sym more);
     }

@@ -10,8 +10,8 @@ use Rattle.drafts.proofs.records.add_variable.Goals as goal
 pub returns : goal.returns
 returns c =
     let s = said c.args.draft.now in
-    let room = place_room c.args.line (length s.vars) 16 (none s.opers && none s.patterns) c.in-ok-variable-place.ensures in
+    let room = place_room c.args.line (length s.vars) 16 (none s.opers && none s.patterns) c.in_ok-variable_place.ensures in
     record {
-      small = omega (arith, room, count plain_var c.args.draft.now.variables, c.in-ok-push.ensures.len);
+      small = omega (arith, room, count plain_var c.args.draft.now.variables, c.in_ok-push.ensures.len);
       told = search (rules, map_push);
     }

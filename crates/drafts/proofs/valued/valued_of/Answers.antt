@@ -3,11 +3,11 @@ use Rattle.std.proofs.Common.{rules}
 use lib.ListN.{length-map}
 use Rattle.drafts.proofs.valued.valued_of.Goals as goal
 
-pub returns-in-err-v : goal.returns-in-err-v
-returns-in-err-v c = search (rules, length-map)
+pub returns-in_err-v : goal.returns-in_err-v
+returns-in_err-v c = search (rules, length-map)
 
-pub returns-in-err-x : goal.returns-in-err-x
-returns-in-err-x c = search (rules, length-map)
+pub returns-in_err-x : goal.returns-in_err-x
+returns-in_err-x c = search (rules, length-map)
 
 pub returns : goal.returns
 returns c = search (rules, length-map)

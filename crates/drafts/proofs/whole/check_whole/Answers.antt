@@ -4,18 +4,18 @@ use Rattle.std.proofs.lemmas.Result.{err_from_is_err_and}
 use Rattle.drafts.proofs.Counted.{whole_none, whole_some, states_test}
 use Rattle.drafts.proofs.whole.check_whole.Goals as goal
 
-pub returns-then-is-empty : goal.returns-then-is-empty
-returns-then-is-empty c = sym (whole_none c.args.draft.now c.if-is-empty.ensures)
+pub returns-then-is_empty : goal.returns-then-is_empty
+returns-then-is_empty c = sym (whole_none c.args.draft.now c.if-is_empty.ensures)
 
-pub returns-in-err-check-effects : goal.returns-in-err-check-effects
-returns-in-err-check-effects c =
-    let p = err_from_is_err_and c.from-residual.result c.from-residual.ensures.1 in
-    rw (p.1, p.2) (sym (whole_some c.args.draft.now _ _ c.if-is-empty.ensures c.as-slice.ensures.value c.in-err-check-effects.ensures))
+pub returns-in_err-check_effects : goal.returns-in_err-check_effects
+returns-in_err-check_effects c =
+    let p = err_from_is_err_and c.from_residual.result c.from_residual.ensures.1 in
+    rw (p.1, p.2) (sym (whole_some c.args.draft.now _ _ c.if-is_empty.ensures c.as_slice.ensures.value c.in_err-check_effects.ensures))
 
-pub returns-then-few-states : goal.returns-then-few-states
-returns-then-few-states c =
-    sym (whole_some c.args.draft.now _ _ c.if-is-empty.ensures c.as-slice.ensures.value c.in-ok-check-effects.ensures ∙ states_test c.args.draft.now _ _ c.as-slice-2.ensures.value c.if-few-states.ensures)
+pub returns-then-few_states : goal.returns-then-few_states
+returns-then-few_states c =
+    sym (whole_some c.args.draft.now _ _ c.if-is_empty.ensures c.as_slice.ensures.value c.in_ok-check_effects.ensures ∙ states_test c.args.draft.now _ _ c.as_slice-2.ensures.value c.if-few_states.ensures)
 
-pub returns-else-few-states : goal.returns-else-few-states
-returns-else-few-states c =
-    sym (whole_some c.args.draft.now _ _ c.if-is-empty.ensures c.as-slice.ensures.value c.in-ok-check-effects.ensures ∙ states_test c.args.draft.now _ _ c.as-slice-2.ensures.value c.if-few-states.ensures)
+pub returns-else-few_states : goal.returns-else-few_states
+returns-else-few_states c =
+    sym (whole_some c.args.draft.now _ _ c.if-is_empty.ensures c.as_slice.ensures.value c.in_ok-check_effects.ensures ∙ states_test c.args.draft.now _ _ c.as_slice-2.ensures.value c.if-few_states.ensures)
