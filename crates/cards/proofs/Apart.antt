@@ -1,6 +1,6 @@
 -- The tests for numbers that come twice, against lists with none twice.
 use Rattle.std.proofs.Common.{◌≡◌, ℕ, false, eqb, List, [], ◌∷◌, ◌++◌, IfOk, Ok, refl, ◌∙◌, subst, append_assoc, append-nil}
-use Rattle.std.specs.List.{AllByRecursion as All}
+use Rattle.std.specs.List.{AllByRecursion}
 use Rattle.std.proofs.ByRecursion.{All-push}
 use Rattle.std.proofs.lemmas.Bool.{eqb-false, ne_eqb, or_parts, or_from, cond-false}
 use Rattle.sas.specs.Model.{Distinct}
@@ -19,7 +19,7 @@ distinct_on_lem l seen (v ∷ vs) d =
     made_unless (λ _. Distinct (seen ++ v ∷ vs)) (member v seen) _ _
     (λ m. subst (λ xs. IfOk (distinct_on l (seen ++ v ∷ []) vs) (λ _. Distinct xs)) (append_assoc seen (v ∷ []) vs) (distinct_on_lem l (seen ++ v ∷ []) vs (distinct_push seen v d m)))
 
-all_middle : {X : Type 0} (P : X → Type 0) (xs : List X) (y : X) (ys : List X) → All P (xs ++ y ∷ ys) → P y
+all_middle : {X : Type 0} (P : X → Type 0) (xs : List X) (y : X) (ys : List X) → AllByRecursion P (xs ++ y ∷ ys) → P y
 all_middle P [] y ys h = h.0
 all_middle P (x ∷ xs) y ys h = all_middle P xs y ys h.1
 

@@ -1,6 +1,6 @@
 -- A line that is spelled by its letter and its fields is tidy, and is cut into them.
 use Rattle.std.proofs.Common.{◌≡◌, ℕ, ◌+◌, ◌^◌, ◌<◌, ◌≤◌, Bool, true, eqb, leb, List, [], ◌∷◌, ◌++◌, length, decimal, refl, ap, ◌∙◌, arith}
-use Rattle.std.specs.List.{AllByRecursion as All}
+use Rattle.std.specs.List.{AllByRecursion}
 use Rattle.std.proofs.ByRecursion.{All-weaker}
 use Rattle.std.proofs.lemmas.List.{length-append}
 use Rattle.std.proofs.lemmas.Bool.{and_parts, and_from, or_right, leb-true, le-leb, ne_eqb, cond-true, cond-false, both_ways}
@@ -12,9 +12,9 @@ use Rattle.cards.proofs.Pieces.{Free, pieces_tabbed}
 
 -- bytes of fields: neither blank nor control bytes
 abbrev pub Inked : List ℕ → Type 0
-Inked t = All (Between 33 126) t
+Inked t = AllByRecursion (Between 33 126) t
 
-bytes_between : (low high : ℕ) (t : List ℕ) → all_bytes (between low high) t ≡ true → All (Between low high) t
+bytes_between : (low high : ℕ) (t : List ℕ) → all_bytes (between low high) t ≡ true → AllByRecursion (Between low high) t
 bytes_between low high [] e = tt
 bytes_between low high (b ∷ bs) e =
     let p = and_parts (between low high b) (all_bytes (between low high) bs) e in
@@ -45,7 +45,7 @@ bytes_append p (x ∷ xs) ys h k =
     let q = and_parts (p x) (all_bytes p xs) h in
     and_from (p x) (all_bytes p (xs ++ ys)) q.0 (bytes_append p xs ys q.1 k)
 
-bytes_tidy : (first : List ℕ) (rest : List (List ℕ)) → Inked first → All Inked rest → all_bytes tidy_byte (tabbed first rest) ≡ true
+bytes_tidy : (first : List ℕ) (rest : List (List ℕ)) → Inked first → AllByRecursion Inked rest → all_bytes tidy_byte (tabbed first rest) ≡ true
 bytes_tidy first [] h k = inked_tidy first h
 bytes_tidy first (next ∷ more) h k = bytes_append tidy_byte first (9 ∷ tabbed next more) (inked_tidy first h) (bytes_tidy next more k.0 k.1)
 
@@ -58,7 +58,7 @@ length_tabbed : (first : List ℕ) (rest : List (List ℕ)) → length (tabbed f
 length_tabbed first [] = omega arith
 length_tabbed first (next ∷ more) = simp length-append (omega (arith, length_tabbed next more))
 
-pub tabbed_tidy : (b : ℕ) (ts : List (List ℕ)) → Between 33 126 b → All Inked ts → room ts ≤ 199 → tidy (tabbed (b ∷ []) ts) ≡ true
+pub tabbed_tidy : (b : ℕ) (ts : List (List ℕ)) → Between 33 126 b → AllByRecursion Inked ts → room ts ≤ 199 → tidy (tabbed (b ∷ []) ts) ≡ true
 tabbed_tidy b ts h k r =
     let line : List ℕ = tabbed (b ∷ []) ts in
     and_from (leb (length line) 200) (all_bytes tidy_byte line) (le-leb (length line) 200 (omega (arith, length_tabbed (b ∷ []) ts))) (bytes_tidy (b ∷ []) ts (h, tt) k)
@@ -71,7 +71,7 @@ tidy_free t e = none_ten t (and_parts (leb (length t) 200) (all_bytes tidy_byte 
     none_ten [] h = tt
     none_ten (b ∷ bs) h = let p = and_parts (tidy_byte b) (all_bytes tidy_byte bs) h in ((λ q. both_ways (tidy_byte b) (ap tidy_byte q) p.0), none_ten bs p.1)
 
-pub cut_tabbed : (l b : ℕ) (t : List ℕ) (ts : List (List ℕ)) → Between 33 126 b → (b ≡ 35 → ⊥) → All Inked (t ∷ ts) → tidy (tabbed (b ∷ []) (t ∷ ts)) ≡ true → cut_line l (tabbed (b ∷ []) (t ∷ ts)) ≡ by_letter l (b ∷ []) (t ∷ ts)
+pub cut_tabbed : (l b : ℕ) (t : List ℕ) (ts : List (List ℕ)) → Between 33 126 b → (b ≡ 35 → ⊥) → AllByRecursion Inked (t ∷ ts) → tidy (tabbed (b ∷ []) (t ∷ ts)) ≡ true → cut_line l (tabbed (b ∷ []) (t ∷ ts)) ≡ by_letter l (b ∷ []) (t ∷ ts)
 cut_tabbed l b t ts h n k e =
     let line : List ℕ = tabbed (b ∷ []) (t ∷ ts) in
     cond-true (tidy line) _ _ e

@@ -1,6 +1,6 @@
 -- Names, numbers, goal values and facts are read back from the texts that spell them.
 use Rattle.std.proofs.Common.{◌≡◌, ℕ, ◌^◌, ◌<◌, ◌≤◌, true, false, cond, ◌&&◌, eqb, ltb, leb, List, [], ◌∷◌, ◌++◌, map, length, get_or, is_some, Some, None, Ok, Err, decimal, Option, Result, refl, ap, ◌∙◌, arith}
-use Rattle.std.specs.List.{AllByRecursion as All}
+use Rattle.std.specs.List.{AllByRecursion}
 use Rattle.std.proofs.lemmas.Bool.{and_from, le-leb, lt-ltb, ne_eqb, cond-true, cond-false}
 use Rattle.fields.specs.declared.faults.FieldFault.TheVariants.{NoName, NoNumber}
 use Rattle.fields.specs.Text.{is_name}
@@ -28,7 +28,7 @@ value_in_lem l f low end n a b h =
 pub number_at_lem : (l f low end n : ℕ) → low ≤ n → n < end → n < 2 ^ 64 → number_at l f low end (decimal n) ≡ Ok n
 number_at_lem l f low end n a b h = ap in_field (bind_ok (number_field l f (decimal n)) (number (decimal n) l f) (value_in low end) (number_field_lem l f n h) ∙ value_in_lem l f low end n a b h)
 
-no_dash : (l f : ℕ) (ds : List ℕ) → All (Between 48 57) ds → number_or_dash l f ds ≡ number_field l f ds
+no_dash : (l f : ℕ) (ds : List ℕ) → AllByRecursion (Between 48 57) ds → number_or_dash l f ds ≡ number_field l f ds
 no_dash l f [] h = refl
 no_dash l f (b ∷ []) h = cond-false (eqb b 45) _ _ (ne_eqb b 45 (λ e. omega arith))
 no_dash l f (b ∷ c ∷ cs) h = refl

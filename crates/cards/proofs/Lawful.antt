@@ -1,6 +1,6 @@
 -- Whatever is read keeps the rules, and its text spells it.
 use Rattle.std.proofs.Common.{◌≡◌, ℕ, ◌≤◌, true, false, leb, List, [], ◌∷◌, map, length, IfOk, Ok, arith}
-use Rattle.std.specs.List.{AllByRecursion as All}
+use Rattle.std.specs.List.{AllByRecursion}
 use Rattle.std.proofs.lemmas.List.{length-map}
 use Rattle.std.proofs.ByRecursion.{All-weaker, All-map}
 use Rattle.std.proofs.lemmas.Result.{IfOk-at_ok, IfOk-weaker}
@@ -19,13 +19,13 @@ use Rattle.cards.proofs.Taken.{lines_taken}
 abbrev Acts : Oper → Type 0
 Acts o = 1 ≤ length o.effects
 
-effective_made : (os : List Placed) → IfOk (effective os) (λ _. All (λ o. Acts o.oper) os)
+effective_made : (os : List Placed) → IfOk (effective os) (λ _. AllByRecursion (λ o. Acts o.oper) os)
 effective_made [] = tt
 effective_made (o ∷ os) =
-    made_unless (λ _. All (λ o. Acts o.oper) (o ∷ os)) (none o.oper.effects) _ (effective os)
+    made_unless (λ _. AllByRecursion (λ o. Acts o.oper) (o ∷ os)) (none o.oper.effects) _ (effective os)
     (λ e. IfOk-weaker (effective os) _ _ (λ _ h. (let z = eqb-false (length o.oper.effects) 0 e in omega arith, h)) (effective_made os))
 
-acting : (zs : List ℕ) (os : List Oper) → All (OperKept zs) os → All Acts os → All (ActionRules zs) (map action os)
+acting : (zs : List ℕ) (os : List Oper) → AllByRecursion (OperKept zs) os → AllByRecursion Acts os → AllByRecursion (ActionRules zs) (map action os)
 acting zs [] h e = tt
 acting zs (o ∷ os) h e = (
   record {
@@ -40,9 +40,9 @@ acting zs (o ∷ os) h e = (
   acting zs os h.1 e.1,
 )
 
-kept_lawful : (c : Content) → Kept c → none c.variables ≡ false → All Acts c.operators → product (sizes c.variables) ≤ 1048576 → Lawful c
+kept_lawful : (c : Content) → Kept c → none c.variables ≡ false → AllByRecursion Acts c.operators → product (sizes c.variables) ≤ 1048576 → Lawful c
 kept_lawful c h v e p =
-    let ruled : All VarRules c.variables = All-weaker VarKept VarRules (λ x k. k.rules) c.variables h.variables in
+    let ruled : AllByRecursion VarRules c.variables = All-weaker VarKept VarRules (λ x k. k.rules) c.variables h.variables in
     let count = length-map c.variables (λ v. v.size) in
     record {
       rules = record {
@@ -64,7 +64,7 @@ kept_lawful c h v e p =
 whole_made : (P : Reading → Type 0) (s : Reading) → Kept (content s) → (Lawful (content s) → P s) → IfOk (whole s) P
 whole_made P s h k =
     made_unless P (none s.vars) _ _
-    (λ v. made_bind (λ _. All (λ o. Acts o.oper) s.opers) P (effective s.opers) _ (effective_made s.opers)
+    (λ v. made_bind (λ _. AllByRecursion (λ o. Acts o.oper) s.opers) P (effective s.opers) _ (effective_made s.opers)
     (λ _ e. made_test P (leb (product (sizes s.vars)) 1048576) (Ok s) _
     (λ p. k (kept_lawful (content s) h v (All-map Acts (λ o. o.oper) s.opers e) (leb-true (product (sizes s.vars)) 1048576 p)))))
 
@@ -72,7 +72,7 @@ whole_made P s h k =
 abbrev Known : List ℕ → Content → Type 0
 Known bytes c = (length bytes ≤ 16384) × Lawful c × Spells bytes c
 
-spells : (bytes : List ℕ) (c : Content) → All (λ l. tidy l ≡ true) (pieces 10 bytes) → Says (telling (pieces 10 bytes)) c → Spells bytes c
+spells : (bytes : List ℕ) (c : Content) → AllByRecursion (λ l. tidy l ≡ true) (pieces 10 bytes) → Says (telling (pieces 10 bytes)) c → Spells bytes c
 spells bytes c t h = record { tidy = t; middle = h.middle; blocks = h.blocks; records = h.records }
 
 reading_made : (bytes : List ℕ) → IfOk (reading bytes) (λ s. Known bytes (content s))
@@ -83,7 +83,7 @@ reading_made bytes =
     (λ lawful. (leb-true (length bytes) 16384 l, lawful, spells bytes (content s) k.0 (steps_say (content s) (telling (pieces 10 bytes)) k.1)))))
   where
     Said : Reading → Type 0
-    Said s = All (λ l. tidy l ≡ true) (pieces 10 bytes) × Steps blank (telling (pieces 10 bytes)) (content s)
+    Said s = AllByRecursion (λ l. tidy l ≡ true) (pieces 10 bytes) × Steps blank (telling (pieces 10 bytes)) (content s)
 
 pub reading_lawful : (bytes : List ℕ) (s : Reading) → reading bytes ≡ Ok s → Lawful (content s)
 reading_lawful bytes s e = (IfOk-at_ok (λ t. Known bytes (content t)) e (reading_made bytes)).1

@@ -1,6 +1,6 @@
 -- A number is read back from its decimal numeral, whose bytes are digits; and no other text is read as it.
 use Rattle.std.proofs.Common.{◌≡◌, ℕ, ◌+◌, ◌-◌, ◌*◌, ◌^◌, ◌<◌, ◌≤◌, Bool, true, false, cond, eqb, leb, List, [], ◌∷◌, length, get_or, Some, None, decimal, Option, sym, refl, ap, ◌∙◌, ⊎_elim, arith}
-use Rattle.std.specs.List.{AllByRecursion as All}
+use Rattle.std.specs.List.{AllByRecursion}
 use Rattle.std.proofs.lemmas.Fmt as decimals
 use Rattle.std.proofs.lemmas.Fmt.{decimal_digit, decimal_nonempty, first_decimal, digits_value-decimal, decimal-digits_value}
 use Rattle.std.proofs.lemmas.Str.Parse.{IsNumeralModel, numerals_by_fold}
@@ -21,16 +21,16 @@ abbrev value_on : ℕ → List ℕ → ℕ
 value_on n [] = n
 value_on n (c ∷ cs) = value_on (10 * n + (c - 48)) cs
 
-own : IsNumeralModel (All (Between 48 57)) (value_on 0)
+own : IsNumeralModel (AllByRecursion (Between 48 57)) (value_on 0)
 own =
-    numerals_by_fold (All (Between 48 57)) (record { empty = tt; parts = λ c cs h. h; more = λ c cs k h. (k, h) }) value_on
+    numerals_by_fold (AllByRecursion (Between 48 57)) (record { empty = tt; parts = λ c cs h. h; more = λ c cs k h. (k, h) }) value_on
     (record { empty = λ n. refl; more = λ n c cs k. ap (λ m. value_on m cs) (omega arith) })
 
-digits_on_lem : (n : ℕ) (ds : List ℕ) → All (Between 48 57) ds → digits_on n ds ≡ Some (value_on n ds)
+digits_on_lem : (n : ℕ) (ds : List ℕ) → AllByRecursion (Between 48 57) ds → digits_on n ds ≡ Some (value_on n ds)
 digits_on_lem n [] h = refl
 digits_on_lem n (c ∷ cs) h = cond-true _ _ _ (between_true 48 57 c h.0) ∙ digits_on_lem (10 * n + (c - 48)) cs h.1
 
-pub digits_decimal : (n : ℕ) → n < 2 ^ 64 → All (Between 48 57) (decimal n)
+pub digits_decimal : (n : ℕ) → n < 2 ^ 64 → AllByRecursion (Between 48 57) (decimal n)
 digits_decimal n h = decimals.digits_decimal own n h
 
 numeral_digits : (n : ℕ) (ds : List ℕ) → digits_on 0 ds ≡ Some n → 0 < length ds → (1 < length ds → get_or ds 0 0 ≡ 48 → ⊥) → numeral ds ≡ Some n
@@ -55,7 +55,7 @@ unless_some : (b : Bool) (o : Option ℕ) (n : ℕ) → cond b None o ≡ Some n
 unless_some true o n e = absurd (let z : ◌≡◌ {A = ℕ} 0 1 = cc in omega arith)
 unless_some false o n e = (refl, e)
 
-digits_value : (m n : ℕ) (ds : List ℕ) → digits_on m ds ≡ Some n → All (Between 48 57) ds × (value_on m ds ≡ n)
+digits_value : (m n : ℕ) (ds : List ℕ) → digits_on m ds ≡ Some n → AllByRecursion (Between 48 57) ds × (value_on m ds ≡ n)
 digits_value m n [] e = (tt, cc)
 digits_value m n (c ∷ cs) e =
     let p = if_some (between 48 57 c) (digits_on (10 * m + (c - 48)) cs) n e in

@@ -1,13 +1,13 @@
 -- The pieces of lines and of fields that were joined are those lines and fields; and pieces joined again are the text.
 use Rattle.std.proofs.Common.{◌≡◌, ℕ, ◌<◌, eqb, List, [], ◌∷◌, ◌++◌, length, sym, refl, ap, ◌∙◌, append_assoc, arith}
-use Rattle.std.specs.List.{flat_map, AllByRecursion as All}
+use Rattle.std.specs.List.{flat_map, AllByRecursion}
 use Rattle.std.proofs.lemmas.Bool.{cond-true, cond-false, cond_both, eq-eqb, ne_eqb, eqb-true}
 use Rattle.fields.specs.Text.{pieces, onto}
 use Rattle.cards.specs.Spelling.{tabbed}
 
 -- no byte s
 abbrev pub Free : ℕ → List ℕ → Type 0
-Free s xs = All (λ b. b ≡ s → ⊥) xs
+Free s xs = AllByRecursion (λ b. b ≡ s → ⊥) xs
 
 pub piece_more : (s : ℕ) (xs ys : List ℕ) → Free s xs → pieces s (xs ++ s ∷ ys) ≡ xs ∷ pieces s ys
 piece_more s [] ys f = cond-true _ _ _ (eq-eqb s s refl)
@@ -17,12 +17,12 @@ pub piece_last : (s : ℕ) (xs : List ℕ) → Free s xs → pieces s xs ≡ xs 
 piece_last s [] f = refl
 piece_last s (x ∷ xs) f = cond-false _ _ _ (ne_eqb x s f.0) ∙ ap (onto x) (piece_last s xs f.1)
 
-pub pieces_tabbed : (first : List ℕ) (rest : List (List ℕ)) → Free 9 first → All (Free 9) rest → pieces 9 (tabbed first rest) ≡ first ∷ rest
+pub pieces_tabbed : (first : List ℕ) (rest : List (List ℕ)) → Free 9 first → AllByRecursion (Free 9) rest → pieces 9 (tabbed first rest) ≡ first ∷ rest
 pieces_tabbed first [] f g = piece_last 9 first f
 pieces_tabbed first (next ∷ more) f g = piece_more 9 first (tabbed next more) f ∙ ap (◌∷◌ first) (pieces_tabbed next more g.0 g.1)
 
 -- lines that each end with byte 10, and what stands after the last of them
-pub pieces_lines : (lines : List (List ℕ)) → All (Free 10) lines → pieces 10 (flat_map (λ l. l ++ 10 ∷ []) lines) ≡ lines ++ [] ∷ []
+pub pieces_lines : (lines : List (List ℕ)) → AllByRecursion (Free 10) lines → pieces 10 (flat_map (λ l. l ++ 10 ∷ []) lines) ≡ lines ++ [] ∷ []
 pieces_lines [] f = refl
 pieces_lines (l ∷ ls) f =
     ap (pieces 10) (append_assoc l (10 ∷ []) (flat_map (λ l. l ++ 10 ∷ []) ls))

@@ -1,6 +1,6 @@
 -- Lines that may stand one after another are the records that spell what they say; and the records of a lawful card may so stand.
 use Rattle.std.proofs.Common.{◌≡◌, ℕ, ◌+◌, ◌≤◌, List, [], ◌∷◌, ◌++◌, map, length, sym, refl, ap, ◌∙◌, subst, append_assoc, append-nil, arith}
-use Rattle.std.specs.List.{AllByRecursion as All}
+use Rattle.std.specs.List.{AllByRecursion}
 use Rattle.std.proofs.lemmas.List.{length_push, length-map, map_push, map-append}
 use Rattle.sas.specs.declared.Precondition.{Precondition}
 use Rattle.sas.specs.declared.Fact.{Fact}
@@ -96,16 +96,16 @@ steps_say c ls p = says_steps blank c [] ls (record { middle = []; blocks = empt
 abbrev at : List Var → List Oper → List (List ℕ) → Content
 at vs os ps = record { variables = vs; operators = os; patterns = ps }
 
-pub variables_kept : (vs : List Var) → All VarRules vs → All (λ z. (2 ≤ z) × (z ≤ 16)) (sizes vs) → All VarKept vs
+pub variables_kept : (vs : List Var) → AllByRecursion VarRules vs → AllByRecursion (λ z. (2 ≤ z) × (z ≤ 16)) (sizes vs) → AllByRecursion VarKept vs
 variables_kept [] h k = tt
 variables_kept (v ∷ vs) h k = (record { rules = h.0; large = k.0.0; small = k.0.1 }, variables_kept vs h.1 k.1)
 
-variables_stand : (vs ws : List Var) → length vs + length ws ≤ 16 → All VarKept ws → Steps (at vs [] []) (map variable_line ws) (at (vs ++ ws) [] [])
+variables_stand : (vs ws : List Var) → length vs + length ws ≤ 16 → AllByRecursion VarKept ws → Steps (at vs [] []) (map variable_line ws) (at (vs ++ ws) [] [])
 variables_stand vs [] few h = ap (λ xs. at xs [] []) (sym (append-nil vs))
 variables_stand vs (w ∷ ws) few h =
     (at (vs ++ w ∷ []) [] [], v_line w h.0 (omega arith) refl refl, subst (λ xs. Steps (at (vs ++ w ∷ []) [] []) (map variable_line ws) (at xs [] [])) (append_assoc vs (w ∷ []) ws) (variables_stand (vs ++ w ∷ []) ws (omega (arith, length_push vs w)) h.1))
 
-patterns_stand : (vs : List Var) (os : List Oper) (ps qs : List (List ℕ)) → length ps + length qs ≤ 2 → All (PatternRules (length vs)) qs → Steps (at vs os ps) (map pattern_line qs) (at vs os (ps ++ qs))
+patterns_stand : (vs : List Var) (os : List Oper) (ps qs : List (List ℕ)) → length ps + length qs ≤ 2 → AllByRecursion (PatternRules (length vs)) qs → Steps (at vs os ps) (map pattern_line qs) (at vs os (ps ++ qs))
 patterns_stand vs os ps [] few h = ap (at vs os) (sym (append-nil ps))
 patterns_stand vs os ps (q ∷ qs) few h =
     (at vs os (ps ++ q ∷ []), t_line q h.0 (omega arith), subst (λ xs. Steps (at vs os (ps ++ q ∷ [])) (map pattern_line qs) (at vs os xs)) (append_assoc ps (q ∷ []) qs) (patterns_stand vs os (ps ++ q ∷ []) qs (omega (arith, length_push ps q)) h.1))
@@ -113,7 +113,7 @@ patterns_stand vs os ps (q ∷ qs) few h =
 -- ys may all come after xs
 record Follow {X : Type 0} (w : Way X) (zs : List ℕ) (xs ys : List X) : Type 0 where
   few : length xs + length ys ≤ 8
-  valued : All (λ x. Valued zs (w.of x) (w.val x)) ys
+  valued : AllByRecursion (λ x. Valued zs (w.of x) (w.val x)) ys
   distinct : Distinct (map w.of (xs ++ ys))
 
 next_fits : {X : Type 0} (w : Way X) (zs : List ℕ) (xs : List X) (y : X) (ys : List X) → Follow w zs xs (y ∷ ys) → Fits w zs xs y
@@ -147,7 +147,7 @@ module _ (vs : List Var) (os : List Oper) where
   parts_stand o (p ∷ ps) (f ∷ fs) h k (left {zs = ls} m) = r_stands ls o p ps (f ∷ fs) h (parts_stand (more_part R o p) ps (f ∷ fs) (rest_follow R (sizes vs) o.preconditions p ps h) k m)
   parts_stand o (p ∷ ps) (f ∷ fs) h k (right {zs = ls} m) = e_stands ls o (p ∷ ps) f fs k (parts_stand (more_part E o f) (p ∷ ps) fs h (rest_follow E (sizes vs) o.effects f fs k) m)
 
-blocks_stand : (vs : List Var) (done os : List Oper) {ls : List (List ℕ)} → length done + length os ≤ 128 → All OperRules os → All (ActionRules (sizes vs)) (map action os) → Blocks os ls → Steps (at vs done []) ls (at vs (done ++ os) [])
+blocks_stand : (vs : List Var) (done os : List Oper) {ls : List (List ℕ)} → length done + length os ≤ 128 → AllByRecursion OperRules os → AllByRecursion (ActionRules (sizes vs)) (map action os) → Blocks os ls → Steps (at vs done []) ls (at vs (done ++ os) [])
 blocks_stand vs done [] few h a empty = ap (λ os. at vs os []) (sym (append-nil done))
 blocks_stand vs done (o ∷ os) few h a (block {parts = parts} {more = more} m rest) = (
   at vs (done ++ fresh o.name o.cost ∷ []) [],

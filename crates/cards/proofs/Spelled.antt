@@ -1,6 +1,6 @@
 -- Bytes that spell a lawful card are read as it; and the text of a lawful card spells it.
 use Rattle.std.proofs.Common.{◌≡◌, ℕ, ◌≤◌, true, not, leb, List, [], ◌∷◌, ◌++◌, map, length, Ok, sym, refl, ap, ◌∙◌, subst, append-nil, arith}
-use Rattle.std.specs.List.{flat_map, AllByRecursion as All}
+use Rattle.std.specs.List.{flat_map, AllByRecursion}
 use Rattle.std.proofs.lemmas.List.Elements.{filter-append}
 use Rattle.std.proofs.ByRecursion.{All-push, All-weaker}
 use Rattle.std.proofs.lemmas.List.{length-map}
@@ -18,7 +18,7 @@ use Rattle.cards.proofs.Steps.{Steps, blank, blank_kept}
 use Rattle.cards.proofs.Records.{lawful_stands}
 use Rattle.cards.proofs.Stands.{Sound, steps_sound, lines_read}
 
-effective_passes : (zs : List ℕ) (os : List Placed) → All (ActionRules zs) (map action (map (λ o. o.oper) os)) → effective os ≡ Ok tt
+effective_passes : (zs : List ℕ) (os : List Placed) → AllByRecursion (ActionRules zs) (map action (map (λ o. o.oper) os)) → effective os ≡ Ok tt
 effective_passes zs [] a = refl
 effective_passes zs (o ∷ os) a =
     cond-false (none o.oper.effects) _ _ (ne_eqb (length o.oper.effects) 0 (λ e. omega (arith, a.0.some_effects)))
@@ -50,7 +50,7 @@ blocks_spelled : (os : List Oper) → Blocks os (flat_map operator_lines os)
 blocks_spelled [] = empty
 blocks_spelled (o ∷ os) = block (mixed_append _ _) (blocks_spelled os)
 
-sound_telling : (ls : List (List ℕ)) → All Sound ls → telling ls ≡ ls
+sound_telling : (ls : List (List ℕ)) → AllByRecursion Sound ls → telling ls ≡ ls
 sound_telling [] h = refl
 sound_telling (l ∷ ls) h = cond-true (not (skipped l)) _ _ (not_from_false (skipped l) h.0.told) ∙ ap (◌∷◌ l) (sound_telling ls h.1)
 
@@ -58,11 +58,11 @@ pub spelled_spells : (c : Content) → Lawful c → Spells (spelled c) c
 unfolding spelled
 spelled_spells c h =
     let b = blocks_spelled c.operators in
-    let sound : All Sound (lines c) = steps_sound blank c (lines c) blank_kept (lawful_stands c h b) in
+    let sound : AllByRecursion Sound (lines c) = steps_sound blank c (lines c) blank_kept (lawful_stands c h b) in
     let clean = All-weaker Sound (λ l. tidy l ≡ true) (λ l k. k.clean) (lines c) sound in
     let cut = pieces_lines (lines c) (All-weaker (λ l. tidy l ≡ true) _ tidy_free (lines c) clean) in
     record {
-      tidy = subst (All (λ l. tidy l ≡ true)) (sym cut) (All-push (λ l. tidy l ≡ true) (lines c) [] clean refl);
+      tidy = subst (AllByRecursion (λ l. tidy l ≡ true)) (sym cut) (All-push (λ l. tidy l ≡ true) (lines c) [] clean refl);
       middle = flat_map operator_lines c.operators;
       blocks = b;
       records = ap telling cut ∙ filter-append (λ l. not (skipped l)) (lines c) ([] ∷ []) ∙ append-nil (telling (lines c)) ∙ sound_telling (lines c) sound;

@@ -1,6 +1,6 @@
 -- A line that may stand where it is is read as that, and so are lines one after another; each is tidy.
 use Rattle.std.proofs.Common.{◌≡◌, ℕ, ◌+◌, ◌*◌, ◌<◌, ◌≤◌, Bool, true, false, cond, not, List, [], ◌∷◌, ◌++◌, map, length, get_or, Some, None, Ok, Err, decimal, Option, Result, sym, refl, ap, ◌∙◌, subst, ⊎_elim, append_assoc, append-nil, arith}
-use Rattle.std.specs.List.{AllByRecursion as All}
+use Rattle.std.specs.List.{AllByRecursion}
 use Rattle.std.proofs.lemmas.Fmt.{length-decimal-le}
 use Rattle.std.proofs.lemmas.List.{length_push, length-map, map_push, same_from_push}
 use Rattle.std.proofs.lemmas.Bool.{and_from, cond-true, lt-ltb, eq-eqb, cases_Bool}
@@ -33,18 +33,18 @@ goal_short size (Some w) h a = number_short w (omega arith)
 abbrev variable_fields : Var → List (List ℕ)
 variable_fields v = v.name ∷ decimal v.size ∷ decimal v.start ∷ goal_text v.goal ∷ []
 
-variable_inked : (v : Var) → VarKept v → All Inked (variable_fields v)
+variable_inked : (v : Var) → VarKept v → AllByRecursion Inked (variable_fields v)
 variable_inked v h =
     (name_inked v.name h.rules.named, (decimal_inked v.size (omega arith), (decimal_inked v.start (omega (arith, h.rules.started)), (goal_inked v.size v.goal h.small h.rules.aimed, tt))))
 
-operator_inked : (name : List ℕ) (cost : ℕ) → is_name name ≡ true → cost < 65536 → All Inked (name ∷ decimal cost ∷ [])
+operator_inked : (name : List ℕ) (cost : ℕ) → is_name name ≡ true → cost < 65536 → AllByRecursion Inked (name ∷ decimal cost ∷ [])
 operator_inked name cost n h = (name_inked name n, (decimal_inked cost (omega arith), tt))
 
-indices_inked : (n : ℕ) (ws : List ℕ) → n ≤ 16 → All (λ v. v < n) ws → All Inked (map decimal ws)
+indices_inked : (n : ℕ) (ws : List ℕ) → n ≤ 16 → AllByRecursion (λ v. v < n) ws → AllByRecursion Inked (map decimal ws)
 indices_inked n [] few h = tt
 indices_inked n (w ∷ ws) few h = (decimal_inked w (omega (arith, h.0)), indices_inked n ws few h.1)
 
-indices_room : (n : ℕ) (ws : List ℕ) → n ≤ 16 → All (λ v. v < n) ws → room (map decimal ws) ≤ 3 * length ws
+indices_room : (n : ℕ) (ws : List ℕ) → n ≤ 16 → AllByRecursion (λ v. v < n) ws → room (map decimal ws) ≤ 3 * length ws
 indices_room n [] few h = omega arith
 indices_room n (w ∷ ws) few h = omega (arith, length-decimal-le 2 w (omega arith) (omega (arith, h.0)) (omega (arith, h.0)), indices_room n ws few h.1)
 
@@ -56,7 +56,7 @@ module _ (vs : List Var) (all : Few vs) (v x : ℕ) (h : Valued (sizes vs) v x) 
   values : get_or (sizes vs) v 0 ≤ 16
   values = size_small vs v all below
 
-  valued_inked : All Inked (decimal v ∷ decimal x ∷ [])
+  valued_inked : AllByRecursion Inked (decimal v ∷ decimal x ∷ [])
   valued_inked = (decimal_inked v (omega (arith, below, all.few)), (decimal_inked x (omega (arith, values, h.1)), tt))
 
   valued_room : room (decimal v ∷ decimal x ∷ []) ≤ 199
@@ -91,7 +91,7 @@ step_sound {c} h (t_line (w ∷ ws) k few) = record {
   told = refl;
 }
 
-pub steps_sound : (c d : Content) (ts : List (List ℕ)) → Kept c → Steps c ts d → All Sound ts
+pub steps_sound : (c d : Content) (ts : List (List ℕ)) → Kept c → Steps c ts d → AllByRecursion Sound ts
 steps_sound c d [] h e = tt
 steps_sound c d (t ∷ ts) h (b, s, p) = (step_sound h s, steps_sound b d ts (step_kept h s) p)
 
@@ -180,7 +180,7 @@ part_read w rules l s os o x few t k =
       says = ap (with_operators (content s)) (map_push (λ o. o.oper) p.before new ∙ ap (λ xs. xs ++ more_part w p.last.oper x ∷ []) p.before_is ∙ ap (λ y. os ++ more_part w y x ∷ []) p.last_is);
     }
 
-indices_passes : (l n : ℕ) (vs ws : List ℕ) → n ≤ 16 → All (λ v. v < n) ws → indices_on l n vs (map decimal ws) ≡ Ok (vs ++ ws)
+indices_passes : (l n : ℕ) (vs ws : List ℕ) → n ≤ 16 → AllByRecursion (λ v. v < n) ws → indices_on l n vs (map decimal ws) ≡ Ok (vs ++ ws)
 indices_passes l n vs [] few h = ap Ok (sym (append-nil vs))
 indices_passes l n vs (w ∷ ws) few h =
     bind_ok (number_at l (length vs + 2) 0 n (decimal w)) w (λ v. indices_on l n (vs ++ v ∷ []) (map decimal ws)) (number_at_lem l (length vs + 2) 0 n w (omega arith) h.0 (omega (arith, h.0)))
@@ -212,7 +212,7 @@ pub record ReadsOn (l : ℕ) (s : Reading) (ls : List (List ℕ)) (c : Content) 
 after : {l : ℕ} {s t : Reading} {text : List ℕ} {ls : List (List ℕ)} {c : Content} → line_on l s text ≡ Ok t → ReadsOn (l + 1) t ls c → ReadsOn l s (text ∷ ls) c
 after {l} {s} {t} {text} {ls} e r = record { last = r.last; read = bind_ok (line_on l s text) t (λ u. read_on (l + 1) u ls) e ∙ r.read; says = r.says }
 
-pub lines_read : (l : ℕ) (s : Reading) (ls : List (List ℕ)) (c : Content) → Kept (content s) → All (λ x. tidy x ≡ true) ls → Steps (content s) (telling ls) c → ReadsOn l s ls c
+pub lines_read : (l : ℕ) (s : Reading) (ls : List (List ℕ)) (c : Content) → Kept (content s) → AllByRecursion (λ x. tidy x ≡ true) ls → Steps (content s) (telling ls) c → ReadsOn l s ls c
 lines_read l s [] c h t e = record { last = s; read = refl; says = e }
 lines_read l s (text ∷ ls) c h t p =
     ⊎_elim

@@ -1,6 +1,6 @@
 -- One record more on top of what a card says so far: where it may stand, and that the rules are kept.
 use Rattle.std.proofs.Common.{◌≡◌, ℕ, ◌<◌, ◌≤◌, true, false, List, [], ◌∷◌, ◌++◌, map, length, get_or, Ok, decimal, Result, sym, refl, ap, subst, arith}
-use Rattle.std.specs.List.{AllByRecursion as All}
+use Rattle.std.specs.List.{AllByRecursion}
 use Rattle.std.proofs.lemmas.List.{length_push, length-map, map_push}
 use Rattle.std.proofs.ByRecursion.{All-push, All-weaker, All-map, All-get_or}
 use Rattle.sas.specs.declared.Precondition.{Precondition}
@@ -75,7 +75,7 @@ part_line w x = tabbed (w.letter ∷ []) (decimal (w.of x) ∷ decimal (w.val x)
 -- the parts xs, over variables of the sizes zs
 pub record PartsKept {X : Type 0} (w : Way X) (zs : List ℕ) (xs : List X) : Type 0 where
   pub few : length xs ≤ 8
-  pub valued : All (λ x. Valued zs (w.of x) (w.val x)) xs
+  pub valued : AllByRecursion (λ x. Valued zs (w.of x) (w.val x)) xs
   pub distinct : Distinct (map w.of xs)
 
 -- x may come after xs
@@ -100,18 +100,18 @@ pub record OperKept (zs : List ℕ) (o : Oper) : Type 0 where
 -- what each record keeps
 pub record Kept (c : Content) : Type 0 where
   pub few_variables : length c.variables ≤ 16
-  pub variables : All VarKept c.variables
+  pub variables : AllByRecursion VarKept c.variables
   pub few_operators : length c.operators ≤ 128
-  pub operators : All (OperKept (sizes c.variables)) c.operators
+  pub operators : AllByRecursion (OperKept (sizes c.variables)) c.operators
   pub few_patterns : length c.patterns ≤ 2
-  pub patterns : All (PatternRules (length c.variables)) c.patterns
+  pub patterns : AllByRecursion (PatternRules (length c.variables)) c.patterns
 
 -- variables that are few and small enough
 pub record Few (vs : List Var) : Type 0 where
   pub few : length vs ≤ 16
-  pub sized : All (λ z. (2 ≤ z) × (z ≤ 16)) (sizes vs)
+  pub sized : AllByRecursion (λ z. (2 ≤ z) × (z ≤ 16)) (sizes vs)
 
-pub kept_sized : (vs : List Var) → All VarKept vs → All (λ z. (2 ≤ z) × (z ≤ 16)) (sizes vs)
+pub kept_sized : (vs : List Var) → AllByRecursion VarKept vs → AllByRecursion (λ z. (2 ≤ z) × (z ≤ 16)) (sizes vs)
 kept_sized vs h = All-map (λ z. (2 ≤ z) × (z ≤ 16)) (λ v. v.size) vs (All-weaker VarKept _ (λ x k. (k.large, k.small)) vs h)
 
 pub kept_few : (c : Content) → Kept c → Few c.variables
@@ -154,13 +154,13 @@ pub data Step (c : Content) : List ℕ → Content → Type 0 where
 pub step_as : {c : Content} {t u : List ℕ} {d e : Content} → t ≡ u → d ≡ e → Step c t d → Step c u e
 step_as {c} {t} {u} {d} {e} p q s = subst (λ x. Step c x e) p (subst (Step c t) q s)
 
-all_front : {X : Type 0} (P : X → Type 0) (xs : List X) (x : X) → All P (xs ++ x ∷ []) → All P xs × P x
+all_front : {X : Type 0} (P : X → Type 0) (xs : List X) (x : X) → AllByRecursion P (xs ++ x ∷ []) → AllByRecursion P xs × P x
 all_front P [] x h = (tt, h.0)
 all_front P (y ∷ ys) x h = let q = all_front P ys x h.1 in ((h.0, q.0), q.1)
 
 operators_kept : (c : Content) (os : List Oper) (o p : Oper) → Kept c → c.operators ≡ os ++ o ∷ [] → (OperKept (sizes c.variables) o → OperKept (sizes c.variables) p) → Kept (with_operators c (os ++ p ∷ []))
 operators_kept c os o p h e k =
-    let q = all_front (OperKept (sizes c.variables)) os o (subst (All (OperKept (sizes c.variables))) e h.operators) in
+    let q = all_front (OperKept (sizes c.variables)) os o (subst (AllByRecursion (OperKept (sizes c.variables))) e h.operators) in
     record {
       few_variables = h.few_variables;
       variables = h.variables;
@@ -175,9 +175,9 @@ step_kept {c} h (v_line v k room e f) = record {
   few_variables = simp length_push (omega arith);
   variables = All-push VarKept c.variables v h.variables k;
   few_operators = h.few_operators;
-  operators = subst (All _) (sym e) tt;
+  operators = subst (AllByRecursion _) (sym e) tt;
   few_patterns = h.few_patterns;
-  patterns = subst (All _) (sym f) tt;
+  patterns = subst (AllByRecursion _) (sym f) tt;
 }
 step_kept {c} h (o_line name cost n k room f) = record {
   few_variables = h.few_variables;

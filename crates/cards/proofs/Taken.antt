@@ -1,6 +1,6 @@
 -- A line that is read is tidy, and says nothing or may stand where it is.
 use Rattle.std.proofs.Common.{◌≡◌, ℕ, ◌+◌, ◌^◌, ◌<◌, ◌≤◌, Bool, true, false, cond, not, ◌&&◌, eqb, ltb, leb, List, [], ◌∷◌, ◌++◌, map, length, get_or, is_some, IfOk, Some, None, Ok, Err, decimal, Option, Result, sym, refl, ap, ◌∙◌, subst, append_assoc, append-nil, arith}
-use Rattle.std.specs.List.{AllByRecursion as All}
+use Rattle.std.specs.List.{AllByRecursion}
 use Rattle.std.proofs.lemmas.List.{length-map, map_push, nil_from_length}
 use Rattle.std.proofs.lemmas.List.Elements.{filter-append}
 use Rattle.std.proofs.lemmas.Result.{IfOk-weaker}
@@ -147,7 +147,7 @@ place_made l false room = tt
 none_nil : {X : Type 0} (xs : List X) → none xs ≡ true → xs ≡ []
 none_nil xs e = nil_from_length xs (eqb-true (length xs) 0 e)
 
-indices_made : (l n : ℕ) (vs : List ℕ) (ts : List (List ℕ)) → n ≤ 16 → IfOk (indices_on l n vs ts) (λ ws. (us : List ℕ) × (ws ≡ vs ++ us) × All (λ v. v < n) us × (map decimal us ≡ ts))
+indices_made : (l n : ℕ) (vs : List ℕ) (ts : List (List ℕ)) → n ≤ 16 → IfOk (indices_on l n vs ts) (λ ws. (us : List ℕ) × (ws ≡ vs ++ us) × AllByRecursion (λ v. v < n) us × (map decimal us ≡ ts))
 indices_made l n vs [] h = ([], sym (append-nil vs), tt, refl)
 indices_made l n vs (t ∷ ts) h =
     made_bind (Number 0 n t) _ (number_at l (length vs + 2) 0 n t) _ (number_made l (length vs + 2) 0 n t)
@@ -291,7 +291,7 @@ some_taken l s text (Some c) (e, x, f) h =
     (record_taken l s c f h)
 
 -- lines that are read are tidy, and those that say something may stand one after another
-pub lines_taken : (l : ℕ) (s : Reading) (texts : List (List ℕ)) → Kept (content s) → IfOk (read_on l s texts) (λ t. All (λ x. tidy x ≡ true) texts × Steps (content s) (telling texts) (content t))
+pub lines_taken : (l : ℕ) (s : Reading) (texts : List (List ℕ)) → Kept (content s) → IfOk (read_on l s texts) (λ t. AllByRecursion (λ x. tidy x ≡ true) texts × Steps (content s) (telling texts) (content t))
 lines_taken l s [] h = (tt, refl)
 lines_taken l s (text ∷ texts) h =
     made_bind (λ t. (tidy text ≡ true) × Steps (content s) (telling (text ∷ [])) (content t)) _ (line_on l s text) (λ t. read_on (l + 1) t texts)

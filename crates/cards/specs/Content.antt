@@ -1,6 +1,6 @@
 -- What a card says: variables, operators and patterns; the task among it; and what a bench takes.
 use Rattle.std.specs.Prelude.{◌≡◌, ℕ, ◌+◌, ◌<◌, ◌≤◌, true, List, [], ◌∷◌, ◌++◌, map, length, Some, None, Option}
-use Rattle.std.specs.List.{AllByRecursion as All}
+use Rattle.std.specs.List.{AllByRecursion}
 use Rattle.sas.specs.declared.Precondition.{Precondition}
 use Rattle.sas.specs.declared.Fact.{Fact}
 use Rattle.sas.specs.Model.{Action, Model, Rules, Distinct}
@@ -59,15 +59,15 @@ pub record OperRules (o : Oper) : Type 0 where
 -- a pattern of a task of n variables
 pub record PatternRules (n : ℕ) (vs : List ℕ) : Type 0 where
   pub some : 1 ≤ length vs
-  pub below : All (λ v. v < n) vs
+  pub below : AllByRecursion (λ v. v < n) vs
   pub distinct : Distinct vs
 
 pub record Lawful (c : Content) : Type 0 where
   pub rules : Rules (task_of c)
-  pub variables : All VarRules c.variables
-  pub operators : All OperRules c.operators
+  pub variables : AllByRecursion VarRules c.variables
+  pub operators : AllByRecursion OperRules c.operators
   pub few_patterns : length c.patterns ≤ 2
-  pub patterns : All (PatternRules (length c.variables)) c.patterns
+  pub patterns : AllByRecursion (PatternRules (length c.variables)) c.patterns
 
 -- what stands for a variable or an operator that a card does not have
 abbrev pub no_var : Var

@@ -1,6 +1,6 @@
 -- Which texts spell what a card says, and what reading makes of them.
 use Rattle.std.specs.Prelude.{◌≡◌, ℕ, ◌≤◌, true, not, List, [], ◌∷◌, ◌++◌, map, length, Some, None, Ok, decimal, filter, Option}
-use Rattle.std.specs.List.{flat_map, AllByRecursion as All}
+use Rattle.std.specs.List.{flat_map, AllByRecursion}
 use Rattle.sas.specs.declared.Precondition.{Precondition}
 use Rattle.sas.specs.declared.Fact.{Fact}
 use Rattle.fields.specs.Text.{pieces, tidy}
@@ -50,7 +50,7 @@ pub data Blocks : List Oper → List (List ℕ) → Type 0 where
 
 -- bytes spell c: V lines, then blocks of operators, then T lines, with lines that say nothing between them
 pub record Spells (bytes : List ℕ) (c : Content) : Type 0 where
-  pub tidy : All (λ l. tidy l ≡ true) (pieces 10 bytes)
+  pub tidy : AllByRecursion (λ l. tidy l ≡ true) (pieces 10 bytes)
   pub middle : List (List ℕ)
   pub blocks : Blocks c.operators middle
   pub records : telling (pieces 10 bytes) ≡ map variable_line c.variables ++ (middle ++ map pattern_line c.patterns)

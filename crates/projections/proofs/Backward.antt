@@ -1,6 +1,6 @@
 -- The states from which an operator leads to y are those that fill its free variables in what its preconditions make of y, if its effects lead from there to y.
 use Rattle.std.proofs.Common.{◌≡◌, ℕ, ◌<◌, ◌≤◌, Bool, true, false, cond, eqb, List, [], ◌∷◌, map, length, get_or, sym, refl, ap, ◌∙◌, inl, inr, arith}
-use Rattle.std.specs.List.{ContainsAt as Has, AllByRecursion as All}
+use Rattle.std.specs.List.{ContainsAt, AllByRecursion}
 use Rattle.std.proofs.ByRecursion.{all-has, all_has_itself, All-weaker}
 use Rattle.std.proofs.lemmas.List.{ext_get_or}
 use Rattle.std.proofs.lemmas.Bool.{both_ways, eqb-false, ne_eqb, or_parts, or_from}
@@ -25,11 +25,11 @@ outside_asks [] v h = refl
 outside_asks (f ∷ fs) v h = or_from (eqb f.variable v) (asks (map as_precondition fs) v) (ne_eqb f.variable v h.0) (outside_asks fs v h.1)
 
 -- what holds of the variables that are set holds of the free ones
-pub unasked_all : (P : ℕ → Type 0) (qs : List Precondition) (es : List Fact) → All (λ f. P f.variable) es → All P (unasked qs es)
+pub unasked_all : (P : ℕ → Type 0) (qs : List Precondition) (es : List Fact) → AllByRecursion (λ f. P f.variable) es → AllByRecursion P (unasked qs es)
 unasked_all P qs [] h = tt
 unasked_all P qs (f ∷ fs) h = on (asks qs f.variable) (unasked_all P qs fs h.1)
   where
-    on : (b : Bool) → All P (unasked qs fs) → All P (cond b (unasked qs fs) (f.variable ∷ unasked qs fs))
+    on : (b : Bool) → AllByRecursion P (unasked qs fs) → AllByRecursion P (cond b (unasked qs fs) (f.variable ∷ unasked qs fs))
     on true rest = rest
     on false rest = (h.0, rest)
 
@@ -68,11 +68,11 @@ off_outside qs (f ∷ fs) v h off = on (asks qs f.variable) refl off (off_outsid
     on false e rest again = (rest.0, again rest.1)
 
 -- the value that a fact gives
-given_at : (fs : List Fact) (s : List ℕ) (v : ℕ) (f : Fact) → Distinct (map (λ g. g.variable) fs) → All (λ g. g.variable < length s) fs → Has fs f → f.variable ≡ v → get_or (outcome fs s) v 0 ≡ f.value
+given_at : (fs : List Fact) (s : List ℕ) (v : ℕ) (f : Fact) → Distinct (map (λ g. g.variable) fs) → AllByRecursion (λ g. g.variable < length s) fs → ContainsAt fs f → f.variable ≡ v → get_or (outcome fs s) v 0 ≡ f.value
 given_at fs s v f distinct inside has q = ap (λ i. get_or (outcome fs s) i 0) (sym q) ∙ all-has (λ g. get_or (outcome fs s) g.variable 0 ≡ g.value) fs f (outcome_gives fs s distinct inside) has
 
 -- states that differ only where facts speak are made the same
-pub outcome_agree : (fs : List Fact) (s x : List ℕ) → length s ≡ length x → Distinct (map (λ f. f.variable) fs) → All (λ f. f.variable < length s) fs → All (λ f. f.variable < length x) fs → ((v : ℕ) → Outside fs v → get_or s v 0 ≡ get_or x v 0) → outcome fs s ≡ outcome fs x
+pub outcome_agree : (fs : List Fact) (s x : List ℕ) → length s ≡ length x → Distinct (map (λ f. f.variable) fs) → AllByRecursion (λ f. f.variable < length s) fs → AllByRecursion (λ f. f.variable < length x) fs → ((v : ℕ) → Outside fs v → get_or s v 0 ≡ get_or x v 0) → outcome fs s ≡ outcome fs x
 outcome_agree fs s x even distinct ins inx agree = ext_get_or 0 (outcome fs s) (outcome fs x) (length_outcome fs s ∙ even ∙ sym (length_outcome fs x)) (λ v l. elim (among fs v) [
   | inl h ↦ given_at fs s v h.0 distinct ins h.1 h.2 ∙ sym (given_at fs x v h.0 distinct inx h.1 h.2)
   | inr out ↦ outcome_keeps fs s v out ∙ agree v out ∙ sym (outcome_keeps fs x v out)
@@ -82,14 +82,14 @@ outcome_agree fs s x even distinct ins inx agree = ext_get_or 0 (outcome fs s) (
 abbrev pub frees : List Fact → List Fact → List ℕ
 frees ps es = unasked (map as_precondition ps) es
 
-module _ (sizes : List ℕ) (ps es : List Fact) (pv : All (λ f. Valued sizes f.variable f.value) ps) (pd : Distinct (map (λ f. f.variable) ps)) (ev : All (λ f. Valued sizes f.variable f.value) es) (ed : Distinct (map (λ f. f.variable) es)) where
-  there : (fs : List Fact) (s : List ℕ) → length s ≡ length sizes → All (λ f. Valued sizes f.variable f.value) fs → All (λ f. f.variable < length s) fs
+module _ (sizes : List ℕ) (ps es : List Fact) (pv : AllByRecursion (λ f. Valued sizes f.variable f.value) ps) (pd : Distinct (map (λ f. f.variable) ps)) (ev : AllByRecursion (λ f. Valued sizes f.variable f.value) es) (ed : Distinct (map (λ f. f.variable) es)) where
+  there : (fs : List Fact) (s : List ℕ) → length s ≡ length sizes → AllByRecursion (λ f. Valued sizes f.variable f.value) fs → AllByRecursion (λ f. f.variable < length s) fs
   there fs s even h = All-weaker (λ f. Valued sizes f.variable f.value) (λ f. f.variable < length s) (λ f w. omega (arith, w.0, even)) fs h
 
   outside_off : (v : ℕ) → Outside es v → Off (frees ps es) v
   outside_off v out = unasked_all (λ w. w ≡ v → ⊥) (map as_precondition ps) es out
 
-  asked_not_free : (f : Fact) → Has ps f → Off (frees ps es) f.variable
+  asked_not_free : (f : Fact) → ContainsAt ps f → Off (frees ps es) f.variable
   asked_not_free f has = on (asks (map as_precondition ps) f.variable) refl
     where
       on : (b : Bool) → asks (map as_precondition ps) f.variable ≡ b → Off (frees ps es) f.variable
@@ -99,7 +99,7 @@ module _ (sizes : List ℕ) (ps es : List Fact) (pv : All (λ f. Valued sizes f.
   -- whatever agrees with the start but for the free variables leads to y
   pub leads_to : (y x : List ℕ) → length y ≡ length sizes → length x ≡ length sizes → outcome es (outcome ps y) ≡ y → ((v : ℕ) → Off (frees ps es) v → get_or x v 0 ≡ get_or (outcome ps y) v 0) → Stand ps x × (outcome es x ≡ y)
   leads_to y x ey ex test agree = (
-    All-weaker (Has ps) (λ f. get_or x f.variable 0 ≡ f.value) (λ f has. agree f.variable (asked_not_free f has) ∙ given_at ps y f.variable f pd (there ps y ey pv) has refl) ps (all_has_itself ps),
+    All-weaker (ContainsAt ps) (λ f. get_or x f.variable 0 ≡ f.value) (λ f has. agree f.variable (asked_not_free f has) ∙ given_at ps y f.variable f pd (there ps y ey pv) has refl) ps (all_has_itself ps),
     outcome_agree es x (outcome ps y) (ex ∙ sym (length_outcome ps y ∙ ey)) ed (there es x ex ev) (there es (outcome ps y) (length_outcome ps y ∙ ey) ev) (λ v out. agree v (outside_off v out)) ∙ test,
   )
 

@@ -1,6 +1,6 @@
 -- What a projection holds, at the parts that are read.
 use Rattle.std.proofs.Common.{◌≡◌, ℕ, ◌<◌, ◌≤◌, List, map, length, get_or, vec_items, sym, ap, ◌∙◌, subst, arith}
-use Rattle.std.specs.List.{AllByRecursion as All}
+use Rattle.std.specs.List.{AllByRecursion}
 use Rattle.std.proofs.lemmas.List.{get_or-map, get_or_past, length-map}
 use Rattle.sas.specs.Model.{Valued}
 use Rattle.sas.specs.States.{idle, operator}
@@ -44,14 +44,14 @@ module _ (p : Projection) (o : ℕ) where
     pub read_free : map (λ f. f.variable) (vec_items x.free) ≡ free (view_of p) o
     read_free = ap (map (λ f. f.variable)) x.frees ∙ zero_variables (unasked (map as_precondition (vec_items x.asked)) (vec_items x.effects)) ∙ ap (λ c. unasked c.preconditions c.effects) (sym read_is)
 
-    pub asked_values : All (λ f. Valued (view_of p).sizes f.variable f.value) (vec_items x.asked)
+    pub asked_values : AllByRecursion (λ f. Valued (view_of p).sizes f.variable f.value) (vec_items x.asked)
     asked_values = asked_valued (view_of p) (held_shaped p) o (vec_items x.asked) (vec_items x.effects) read_is read_number
 
-    pub effect_values : All (λ f. Valued (view_of p).sizes f.variable f.value) (vec_items x.effects)
+    pub effect_values : AllByRecursion (λ f. Valued (view_of p).sizes f.variable f.value) (vec_items x.effects)
     effect_values = set_valued (view_of p) (held_shaped p) o (vec_items x.asked) (vec_items x.effects) read_is read_number
 
-    pub free_values : All (λ f. Valued (view_of p).sizes f.variable f.value) (vec_items x.free)
-    free_values = subst (All (λ f. Valued (view_of p).sizes f.variable f.value)) (sym x.frees) (frees_valued (view_of p).sizes (vec_items x.asked) (vec_items x.effects) effect_values)
+    pub free_values : AllByRecursion (λ f. Valued (view_of p).sizes f.variable f.value) (vec_items x.free)
+    free_values = subst (AllByRecursion (λ f. Valued (view_of p).sizes f.variable f.value)) (sym x.frees) (frees_valued (view_of p).sizes (vec_items x.asked) (vec_items x.effects) effect_values)
 
     pub free_few : length (vec_items x.free) ≤ 8
     free_few =

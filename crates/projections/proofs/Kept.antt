@@ -1,6 +1,6 @@
 -- The kept facts and preconditions: what was said of them, and what they make of a state.
 use Rattle.std.proofs.Common.{◌≡◌, ℕ, suc, ◌≤◌, Bool, true, false, cond, List, [], ◌∷◌, map, length, set, sym, refl, ap, ◌∙◌, subst, arith}
-use Rattle.std.specs.List.{AllByRecursion as All}
+use Rattle.std.specs.List.{AllByRecursion}
 use Rattle.sas.specs.Model.{Distinct, Valued}
 use Rattle.sas.specs.States.{Holds, Stands, outcome}
 use Rattle.sas.specs.declared.Fact.{Fact}
@@ -12,14 +12,14 @@ use Rattle.projections.proofs.Only.{place_apart, place_below, get_or_only, set_o
 
 module _ {X : Type 0} (variable : X → ℕ) (renumbered : ℕ → X → X) (keep : ℕ → Bool) where
   -- what holds of each part holds, put anew, of each that is kept
-  pub kept_all : (P Q : X → Type 0) → ((x : X) → keep (variable x) ≡ true → P x → Q (renumbered (place keep (variable x)) x)) → (xs : List X) → All P xs → All Q (kept variable renumbered keep xs)
+  pub kept_all : (P Q : X → Type 0) → ((x : X) → keep (variable x) ≡ true → P x → Q (renumbered (place keep (variable x)) x)) → (xs : List X) → AllByRecursion P xs → AllByRecursion Q (kept variable renumbered keep xs)
   kept_all P Q f [] h = tt
   kept_all P Q f (x ∷ xs) h = on (keep (variable x)) refl (kept_all P Q f xs h.1)
     where
       r : List X
       r = kept variable renumbered keep xs
 
-      on : (b : Bool) → keep (variable x) ≡ b → All Q r → All Q (cond b (renumbered (place keep (variable x)) x ∷ r) r)
+      on : (b : Bool) → keep (variable x) ≡ b → AllByRecursion Q r → AllByRecursion Q (cond b (renumbered (place keep (variable x)) x ∷ r) r)
       on true e a = (f x e h.0, a)
       on false e a = a
 
@@ -35,14 +35,14 @@ module _ {X : Type 0} (variable : X → ℕ) (renumbered : ℕ → X → X) (kee
       on false e = omega arith
 
   module _ (named : (v : ℕ) (x : X) → variable (renumbered v x) ≡ v) where
-    kept_differ : (v : ℕ) → keep v ≡ true → (xs : List X) → All (λ y. v ≡ y → ⊥) (map variable xs) → All (λ y. place keep v ≡ y → ⊥) (map variable (kept variable renumbered keep xs))
+    kept_differ : (v : ℕ) → keep v ≡ true → (xs : List X) → AllByRecursion (λ y. v ≡ y → ⊥) (map variable xs) → AllByRecursion (λ y. place keep v ≡ y → ⊥) (map variable (kept variable renumbered keep xs))
     kept_differ v k [] h = tt
     kept_differ v k (x ∷ xs) h = on (keep (variable x)) refl (kept_differ v k xs h.1)
       where
         r : List X
         r = kept variable renumbered keep xs
 
-        on : (b : Bool) → keep (variable x) ≡ b → All (λ y. place keep v ≡ y → ⊥) (map variable r) → All (λ y. place keep v ≡ y → ⊥) (map variable (cond b (renumbered (place keep (variable x)) x ∷ r) r))
+        on : (b : Bool) → keep (variable x) ≡ b → AllByRecursion (λ y. place keep v ≡ y → ⊥) (map variable r) → AllByRecursion (λ y. place keep v ≡ y → ⊥) (map variable (cond b (renumbered (place keep (variable x)) x ∷ r) r))
         on true e a = (λ q. h.0 (place_apart keep v (variable x) k e (q ∙ named (place keep (variable x)) x)), a)
         on false e a = a
 
@@ -57,7 +57,7 @@ module _ {X : Type 0} (variable : X → ℕ) (renumbered : ℕ → X → X) (kee
         p = place keep (variable x)
 
         on : (b : Bool) → keep (variable x) ≡ b → Distinct (map variable r) → Distinct (map variable (cond b (renumbered p x ∷ r) r))
-        on true e a = (subst (λ v. All (λ y. v ≡ y → ⊥) (map variable r)) (sym (named p x)) (kept_differ (variable x) e xs h.0), a)
+        on true e a = (subst (λ v. AllByRecursion (λ y. v ≡ y → ⊥) (map variable r)) (sym (named p x)) (kept_differ (variable x) e xs h.0), a)
         on false e a = a
 
 valued_only : (keep : ℕ → Bool) (sizes : List ℕ) (v x : ℕ) → keep v ≡ true → Valued sizes v x → Valued (only keep sizes) (place keep v) x
@@ -70,10 +70,10 @@ abbrev precondition_of : ℕ → Precondition → Precondition
 precondition_of v p = record { variable = v; value = p.value }
 
 module _ (keep : ℕ → Bool) where
-  pub kept_facts_valued : (sizes : List ℕ) (fs : List Fact) → All (λ f. Valued sizes f.variable f.value) fs → All (λ f. Valued (only keep sizes) f.variable f.value) (kept_facts keep fs)
+  pub kept_facts_valued : (sizes : List ℕ) (fs : List Fact) → AllByRecursion (λ f. Valued sizes f.variable f.value) fs → AllByRecursion (λ f. Valued (only keep sizes) f.variable f.value) (kept_facts keep fs)
   kept_facts_valued sizes fs h = kept_all (λ x. x.variable) fact_of keep (λ f. Valued sizes f.variable f.value) (λ f. Valued (only keep sizes) f.variable f.value) (λ f k w. valued_only keep sizes f.variable f.value k w) fs h
 
-  pub kept_preconditions_valued : (sizes : List ℕ) (ps : List Precondition) → All (λ p. Valued sizes p.variable p.value) ps → All (λ p. Valued (only keep sizes) p.variable p.value) (kept_preconditions keep ps)
+  pub kept_preconditions_valued : (sizes : List ℕ) (ps : List Precondition) → AllByRecursion (λ p. Valued sizes p.variable p.value) ps → AllByRecursion (λ p. Valued (only keep sizes) p.variable p.value) (kept_preconditions keep ps)
   kept_preconditions_valued sizes ps h = kept_all (λ x. x.variable) precondition_of keep (λ p. Valued sizes p.variable p.value) (λ p. Valued (only keep sizes) p.variable p.value) (λ p k w. valued_only keep sizes p.variable p.value k w) ps h
 
   pub kept_facts_distinct : (fs : List Fact) → Distinct (map (λ f. f.variable) fs) → Distinct (map (λ f. f.variable) (kept_facts keep fs))
@@ -83,10 +83,10 @@ module _ (keep : ℕ → Bool) where
   kept_preconditions_distinct ps h = kept_distinct (λ x. x.variable) precondition_of keep (λ v p. refl) ps h
 
   -- what stands and holds in a state does so in what is left of it
-  pub kept_stand : (s : List ℕ) (fs : List Fact) → All (λ f. Stands f s) fs → All (λ f. Stands f (only keep s)) (kept_facts keep fs)
+  pub kept_stand : (s : List ℕ) (fs : List Fact) → AllByRecursion (λ f. Stands f s) fs → AllByRecursion (λ f. Stands f (only keep s)) (kept_facts keep fs)
   kept_stand s fs h = kept_all (λ x. x.variable) fact_of keep (λ f. Stands f s) (λ f. Stands f (only keep s)) (λ f k w. (stands_is _ (only keep s)).1 (get_or_only keep s f.variable 0 k ∙ (stands_is f s).0 w)) fs h
 
-  pub kept_hold : (s : List ℕ) (ps : List Precondition) → All (λ p. Holds p s) ps → All (λ p. Holds p (only keep s)) (kept_preconditions keep ps)
+  pub kept_hold : (s : List ℕ) (ps : List Precondition) → AllByRecursion (λ p. Holds p s) ps → AllByRecursion (λ p. Holds p (only keep s)) (kept_preconditions keep ps)
   kept_hold s ps h = kept_all (λ x. x.variable) precondition_of keep (λ p. Holds p s) (λ p. Holds p (only keep s)) (λ p k w. (holds_is _ (only keep s)).1 (get_or_only keep s p.variable 0 k ∙ (holds_is p s).0 w)) ps h
 
   -- what is left of the outcome is the outcome of what is left

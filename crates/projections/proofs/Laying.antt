@@ -1,6 +1,6 @@
 -- The parts of a projection: its coefficients, and the task that it holds.
 use Rattle.std.proofs.Common.{◌≡◌, ℕ, zero, suc, ◌*◌, ◌<◌, ◌≤◌, Bool, List, [], ◌∷◌, map, length, get_or, sym, refl, ap, ◌∙◌, subst, mul_assoc, mul-pos, one-mul, mul-one, arith}
-use Rattle.std.specs.List.{AllByRecursion as All}
+use Rattle.std.specs.List.{AllByRecursion}
 use Rattle.std.proofs.ByRecursion.{All-get_or}
 use Rattle.sas.specs.Model.{Action, Model, Rules, product}
 use Rattle.sas.specs.Ranks.{coefficient}
@@ -23,12 +23,12 @@ scale_from c (z ∷ zs) (suc v) l = scale_from (c * z) zs v (omega arith) ∙ mu
 pub scale_at : (zs : List ℕ) (v : ℕ) → v < length zs → get_or (scales zs) v 0 ≡ coefficient zs v
 scale_at zs v l = scale_from 1 zs v l ∙ one-mul (coefficient zs v)
 
-scales_pos : (c : ℕ) (zs : List ℕ) → 0 < c → All (λ z. 0 < z) zs → All (λ k. 0 < k) (scales_from c zs)
+scales_pos : (c : ℕ) (zs : List ℕ) → 0 < c → AllByRecursion (λ z. 0 < z) zs → AllByRecursion (λ k. 0 < k) (scales_from c zs)
 scales_pos c [] p h = tt
 scales_pos c (z ∷ zs) p h = (p, scales_pos (c * z) zs (mul-pos p h.0) h.1)
 
 module _ (keep : ℕ → Bool) (m : Model) (r : Rules m) where
-  pub kept_positive : All (λ z. 0 < z) (only keep m.sizes)
+  pub kept_positive : AllByRecursion (λ z. 0 < z) (only keep m.sizes)
   kept_positive = all_only (λ z. 0 < z) keep m.sizes (positive m r)
 
   pub kept_few : product (only keep m.sizes) ≤ 1048576

@@ -1,7 +1,7 @@
 -- The kept elements of a list, and the new numbers of the kept variables.
 use Rattle.std.proofs.Common.{◌≡◌, ℕ, zero, suc, ◌+◌, ◌*◌, ◌<◌, ◌≤◌, Bool, true, false, cond, List, [], ◌∷◌, length, get_or, set, sym, refl, ap, ◌∙◌, subst, mul-le-mul_right, mul-le-mul_left, one-mul, arith}
 use native.Mathlib.Decide.{ℕ_discrete}
-use Rattle.std.specs.List.{AllByRecursion as All}
+use Rattle.std.specs.List.{AllByRecursion}
 use Rattle.sas.specs.Model.{product}
 use Rattle.sas.specs.States.{State}
 use Rattle.projections.specs.Projection.{only, place}
@@ -133,14 +133,14 @@ place_from keep (suc n) i l = on (keep n) refl l (λ h. let f = place_from keep 
 pub only_from : {X : Type 0} (keep : ℕ → Bool) (s : List X) (i : ℕ) → i < length (only keep s) → (v : ℕ) × (v < length s) × (keep v ≡ true) × (place keep v ≡ i)
 only_from keep s i l = place_from keep (length s) i (omega (arith, length_only keep s))
 
-pub all_only : {X : Type 0} (P : X → Type 0) (keep : ℕ → Bool) (s : List X) → All P s → All P (only keep s)
+pub all_only : {X : Type 0} (P : X → Type 0) (keep : ℕ → Bool) (s : List X) → AllByRecursion P s → AllByRecursion P (only keep s)
 all_only P keep [] h = tt
 all_only {X} P keep (x ∷ s) h = on (keep 0) (all_only P (later keep) s h.1)
   where
     r : List X
     r = only (later keep) s
 
-    on : (b : Bool) → All P r → All P (cond b (x ∷ r) r)
+    on : (b : Bool) → AllByRecursion P r → AllByRecursion P (cond b (x ∷ r) r)
     on true a = (h.0, a)
     on false a = a
 
@@ -153,7 +153,7 @@ state_only keep sizes s h = (
       subst (λ n. get_or (only keep s) n 0 < get_or (only keep sizes) n 0) f.3 (omega (arith, get_or_only keep s f.0 0 f.2, get_or_only keep sizes f.0 0 f.2, low)),
 )
 
-pub product_only : (keep : ℕ → Bool) (sizes : List ℕ) → All (λ z. 0 < z) sizes → product (only keep sizes) ≤ product sizes
+pub product_only : (keep : ℕ → Bool) (sizes : List ℕ) → AllByRecursion (λ z. 0 < z) sizes → product (only keep sizes) ≤ product sizes
 product_only keep [] h = omega arith
 product_only keep (z ∷ zs) h = on (keep 0) (product_only (later keep) zs h.1)
   where

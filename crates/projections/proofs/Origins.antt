@@ -1,6 +1,6 @@
 -- The ranks from which an operator leads to a rank: the one in which its free variables are 0, and what their choices add.
 use Rattle.std.proofs.Common.{◌≡◌, ℕ, ◌+◌, ◌<◌, List, [], ◌∷◌, map, length, get_or, sym, ap, ◌∙◌, subst, arith}
-use Rattle.std.specs.List.{AllByRecursion as All}
+use Rattle.std.specs.List.{AllByRecursion}
 use Rattle.std.proofs.ByRecursion.{All-map, All-weaker}
 use Rattle.sas.specs.Model.{Model, Distinct, Valued}
 use Rattle.sas.specs.Ranks.{rank, states}
@@ -26,7 +26,7 @@ zero_variables [] = λ i. []
 zero_variables (v ∷ vs) = ap (λ ws. v ∷ ws) (zero_variables vs)
 
 -- 0 is a value of each free variable
-pub frees_valued : (sizes : List ℕ) (ps es : List Fact) → All (λ f. Valued sizes f.variable f.value) es → All (λ f. Valued sizes f.variable f.value) (map at_zero (frees ps es))
+pub frees_valued : (sizes : List ℕ) (ps es : List Fact) → AllByRecursion (λ f. Valued sizes f.variable f.value) es → AllByRecursion (λ f. Valued sizes f.variable f.value) (map at_zero (frees ps es))
 frees_valued sizes ps es h = All-map (λ f. Valued sizes f.variable f.value) at_zero (frees ps es) (unasked_all (λ v. Valued sizes v 0) (map as_precondition ps) es (All-weaker (λ f. Valued sizes f.variable f.value) (λ f. Valued sizes f.variable 0) (λ f w. (w.0, omega (arith, w.1))) es h))
 
 module _ (p : Model) (h : Shaped p) (o : ℕ) (ps es : List Fact) (is : operator p o ≡ acts ps es) (number : o < length p.operators) (t : ℕ) (low : t < states p) (a w : ℕ) (asked : Writes t a p.sizes ps) (back : Writes a w p.sizes es) where
@@ -90,10 +90,10 @@ module _ (p : Model) (h : Shaped p) (o : ℕ) (ps es : List Fact) (is : operator
     distinct : Distinct (frees ps es)
     distinct = unasked_distinct (map as_precondition ps) es (set_distinct p h o ps es is number)
 
-    inside : All (λ v. v < length p.sizes) (frees ps es)
+    inside : AllByRecursion (λ v. v < length p.sizes) (frees ps es)
     inside = unasked_all (λ v. v < length p.sizes) (map as_precondition ps) es (All-weaker (λ f. Valued p.sizes f.variable f.value) (λ f. f.variable < length p.sizes) (λ f x. x.0) es (set_valued p h o ps es is number))
 
-    at_zero : All (λ v. get_or zeros v 0 ≡ 0) (frees ps es)
+    at_zero : AllByRecursion (λ v. get_or zeros v 0 ≡ 0) (frees ps es)
     at_zero = all_unmap (λ f. get_or zeros f.variable 0 ≡ f.value) at_zero (frees ps es) (outcome_gives (map at_zero (frees ps es)) start (subst Distinct (sym (zero_variables (frees ps es))) distinct) (All-map (λ f. f.variable < length start) at_zero (frees ps es) (All-weaker (λ v. v < length p.sizes) (λ v. v < length start) (λ v l. omega (arith, l, start_state.0)) (frees ps es) inside)))
 
     fill_rank : (n : ℕ) → rank p.sizes (fill p.sizes (frees ps es) n zeros) ≡ b + offset p.sizes (frees ps es) n

@@ -1,6 +1,6 @@
 -- What a step and a goal state of the whole task are in the projected one.
 use Rattle.std.proofs.Common.{◌≡◌, ℕ, zero, suc, ◌<◌, Bool, List, [], ◌∷◌, map, length, get_or, sym, refl, ap, ◌∙◌, subst, arith}
-use Rattle.std.specs.List.{AllByRecursion as All}
+use Rattle.std.specs.List.{AllByRecursion}
 use Rattle.std.proofs.lemmas.List.{length-map}
 use Rattle.sas.specs.Model.{Action, Model, Rules}
 use Rattle.sas.specs.States.{State, Holds, Stands, Step, outcome, operator, idle}
@@ -53,7 +53,7 @@ module _ (keep : ℕ → Bool) (m : Model) where
   step_projected o s t d =
       let parts = (applies_is m o s).0 ((step_is m o s t).0 d).0 in
       let numbered : o < length (projected keep m).operators = omega (arith, operators_projected keep m, parts.0) in
-      let holding = subst (λ a. All (λ p. Holds p (only keep s)) a.preconditions) (sym (operator_projected keep m o)) (kept_hold keep s (operator m o).preconditions parts.2) in
+      let holding = subst (λ a. AllByRecursion (λ p. Holds p (only keep s)) a.preconditions) (sym (operator_projected keep m o)) (kept_hold keep s (operator m o).preconditions parts.2) in
       (step_is (projected keep m) o (only keep s) (only keep t)).1 ((applies_is (projected keep m) o (only keep s)).1 (numbered, state_projected s parts.1, holding), outcome_projected o s t d)
 
   pub projection_laws : Rules m → ProjectionLaws keep m
@@ -68,5 +68,5 @@ module _ (keep : ℕ → Bool) (m : Model) where
     stays = λ o s t d gone. outcome_projected o s t d ∙ no_effects (operator (projected keep m) o).effects (only keep s) gone;
     goals = λ s g.
         let parts = (goal_is m s).0 g in
-        (goal_is (projected keep m) (only keep s)).1 (state_projected s parts.0, subst (All (λ f. Stands f (only keep s))) (sym (goal_projected keep m)) (kept_stand keep s m.goal parts.1));
+        (goal_is (projected keep m) (only keep s)).1 (state_projected s parts.0, subst (AllByRecursion (λ f. Stands f (only keep s))) (sym (goal_projected keep m)) (kept_stand keep s m.goal parts.1));
   }

@@ -1,6 +1,6 @@
 -- What sizes give that stand beside their coefficients.
 use Rattle.std.proofs.Common.{◌≡◌, ℕ, ◌+◌, ◌-◌, ◌*◌, ◌%◌, ◌<◌, ◌≤◌, List, length, get_or, set, sym, ap, ◌∙◌, subst, mul-le-mul_right, mod-lt, mul_comm, mul-le-mul_left, mul-one, mul-add, arith}
-use Rattle.std.specs.List.{AllByRecursion as All}
+use Rattle.std.specs.List.{AllByRecursion}
 use Rattle.std.proofs.ByRecursion.{All-get_or, All-weaker}
 use Rattle.sas.specs.Model.{product}
 use Rattle.sas.specs.Ranks.{coefficient}
@@ -8,10 +8,10 @@ use Rattle.sas.proofs.Digits.{coefficient_pos, coefficient_more, coefficient_siz
 use Rattle.sas.proofs.Unranks.{unrank}
 use Rattle.projections.specs.Parts.{Laid, digit}
 
-pub sizes_positive : (sizes : List ℕ) → All (λ z. (2 ≤ z) × (z ≤ 16)) sizes → All (λ z. 0 < z) sizes
+pub sizes_positive : (sizes : List ℕ) → AllByRecursion (λ z. (2 ≤ z) × (z ≤ 16)) sizes → AllByRecursion (λ z. 0 < z) sizes
 sizes_positive sizes h = All-weaker (λ z. (2 ≤ z) × (z ≤ 16)) (λ z. 0 < z) (λ z l. omega (arith, l.0)) sizes h
 
-pub size_at : (sizes : List ℕ) → All (λ z. (2 ≤ z) × (z ≤ 16)) sizes → (v : ℕ) → v < length sizes → (2 ≤ get_or sizes v 0) × (get_or sizes v 0 ≤ 16)
+pub size_at : (sizes : List ℕ) → AllByRecursion (λ z. (2 ≤ z) × (z ≤ 16)) sizes → (v : ℕ) → v < length sizes → (2 ≤ get_or sizes v 0) × (get_or sizes v 0 ≤ 16)
 size_at sizes h v l = All-get_or (λ z. (2 ≤ z) × (z ≤ 16)) sizes v 0 l h
 
 -- a digit and all before it make up less than the next place

@@ -1,7 +1,7 @@
 -- The task that a projection holds, from its parts; the digits of a rank, and where they stand.
 use Rattle.std.specs.Prelude.{◌≡◌, ℕ, ◌*◌, ◌/◌, ◌%◌, ◌<◌, ◌≤◌, List, [], ◌∷◌, map, length, vec_items, Vec, slice_index}
 use Rattle.std.specs.declared.alloc.Global.{Global}
-use Rattle.std.specs.List.{AllByRecursion as All}
+use Rattle.std.specs.List.{AllByRecursion}
 use Rattle.sas.specs.Model.{Action, Model, product}
 use Rattle.sas.specs.Ranks.{sum, coefficient}
 use Rattle.sas.specs.declared.Fact.{Fact}
@@ -33,7 +33,7 @@ folded places sizes k = sum (λ v. k / slice_index places v % slice_index sizes 
 
 -- sizes with their coefficients, and with those of the whole task
 pub record Laid (sizes coefficients places : List ℕ) : Type 0 where
-  pub sized : All (λ z. (2 ≤ z) × (z ≤ 16)) sizes
+  pub sized : AllByRecursion (λ z. (2 ≤ z) × (z ≤ 16)) sizes
   pub few : product sizes ≤ 1048576
   pub long : length coefficients ≡ length sizes
   pub scaled : (v : ℕ) → v < length sizes → slice_index coefficients v ≡ coefficient sizes v

@@ -1,6 +1,6 @@
 // Ranks as numbers with a digit for each variable: reading digits and writing them.
 ghost use Rattle.std.specs.Prelude.{◌≡◌, ℕ, ◌*◌, ◌<◌, ◌≤◌, List, map, length, Decides};
-ghost use Rattle.std.specs.List.{AllByRecursion as All};
+ghost use Rattle.std.specs.List.{AllByRecursion};
 ghost use Rattle.sas.specs.Model.{Valued, product};
 ghost use Rattle.sas.specs.Ranks as Ranks;
 ghost use Rattle.sas.specs.States.{State, outcome};
@@ -21,8 +21,8 @@ pub(crate) fn value_of(sizes: &[u8], coefficients: &[usize], variable: usize, ra
 // Whether facts stand in the state of a rank.
 pub(crate) fn all_stand(sizes: &[u8], coefficients: &[usize], facts: &[Fact], rank: usize) -> bool
     requires laid { (places : List ℕ) × Laid sizes.now coefficients.now places }
-    requires inside { All (λ f. f.variable < length sizes.now) facts.now }
-    ensures { Decides result (All (λ f. digit sizes.now f.variable rank ≡ f.value) facts.now) }
+    requires inside { AllByRecursion (λ f. f.variable < length sizes.now) facts.now }
+    ensures { Decides result (AllByRecursion (λ f. digit sizes.now f.variable rank ≡ f.value) facts.now) }
 {
     for f in facts {
         if value_of(sizes, coefficients, f.variable as usize, rank) != f.value as usize {
@@ -35,7 +35,7 @@ pub(crate) fn all_stand(sizes: &[u8], coefficients: &[usize], facts: &[Fact], ra
 // The rank of a state with facts put in, one by one.
 pub(crate) fn written(sizes: &[u8], coefficients: &[usize], facts: &[Fact], rank: usize) -> usize
     requires laid { (places : List ℕ) × Laid sizes.now coefficients.now places }
-    requires valued { All (λ f. Valued sizes.now f.variable f.value) facts.now }
+    requires valued { AllByRecursion (λ f. Valued sizes.now f.variable f.value) facts.now }
     requires below { rank < product sizes.now }
     ensures value { (s : List ℕ) → State sizes.now s → Ranks.rank sizes.now s ≡ rank → result ≡ Ranks.rank sizes.now (outcome facts.now s) }
     ensures low { result < product sizes.now }
@@ -52,8 +52,8 @@ pub(crate) fn written(sizes: &[u8], coefficients: &[usize], facts: &[Fact], rank
 
 // How many values some variables have together.
 pub(crate) fn ways_of(sizes: &[u8], variables: &[Fact]) -> usize
-    requires sized { All (λ z. (2 ≤ z) × (z ≤ 16)) sizes.now }
-    requires inside { All (λ f. f.variable < length sizes.now) variables.now }
+    requires sized { AllByRecursion (λ z. (2 ≤ z) × (z ≤ 16)) sizes.now }
+    requires inside { AllByRecursion (λ f. f.variable < length sizes.now) variables.now }
     requires few { length variables.now ≤ 8 }
     ensures { result ≡ ways sizes.now (map (λ f. f.variable) variables.now) }
 {
@@ -67,7 +67,7 @@ pub(crate) fn ways_of(sizes: &[u8], variables: &[Fact]) -> usize
 // What the n-th choice of values for some variables adds to a rank in which they are 0.
 pub(crate) fn offset_of(sizes: &[u8], coefficients: &[usize], variables: &[Fact], n: usize) -> usize
     requires laid { (places : List ℕ) × Laid sizes.now coefficients.now places }
-    requires inside { All (λ f. f.variable < length sizes.now) variables.now }
+    requires inside { AllByRecursion (λ f. f.variable < length sizes.now) variables.now }
     requires few { length variables.now ≤ 8 }
     ensures { result ≡ offset sizes.now (map (λ f. f.variable) variables.now) n }
 {

@@ -1,6 +1,6 @@
 -- Tasks that are equal as sets have the same states, ranks, steps and goal states.
 use Rattle.std.proofs.Common.{◌≡◌, ℕ, ◌<◌, List, length, sym, ap, ◌∙◌, subst, arith}
-use Rattle.std.specs.List.{ContainsAt as Has, AllByRecursion as All}
+use Rattle.std.specs.List.{ContainsAt, AllByRecursion}
 use Rattle.std.proofs.ByRecursion.{all-has, all_has_itself, All-weaker}
 use Rattle.sas.specs.Model.{Model, Rules, product}
 use Rattle.sas.specs.States.{State, Holds, Stands, Applies, Step, Goal, operator}
@@ -10,8 +10,8 @@ use Rattle.sas.proofs.Outcomes.{outcome_same}
 use Rattle.sas.proofs.Steps.{applies_is, step_is, goal_is, acting_at, effects_inside}
 
 -- what holds of each element holds of each that another list has too
-pub all_same : {X : Type 0} (P : X → Type 0) (xs ys : List X) → ((x : X) → Has ys x → Has xs x) → All P xs → All P ys
-all_same P xs ys from h = All-weaker (Has ys) P (λ y has. all-has P xs y h (from y has)) ys (all_has_itself ys)
+pub all_same : {X : Type 0} (P : X → Type 0) (xs ys : List X) → ((x : X) → ContainsAt ys x → ContainsAt xs x) → AllByRecursion P xs → AllByRecursion P ys
+all_same P xs ys from h = All-weaker (ContainsAt ys) P (λ y has. all-has P xs y h (from y has)) ys (all_has_itself ys)
 
 states_same : (m n : Model) → m.sizes ≡ n.sizes → states m ≡ states n
 unfolding states

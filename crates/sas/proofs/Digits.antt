@@ -1,7 +1,7 @@
 -- The digits of a rank: a state's values, read from its rank, and what becomes of the rank where one is written.
 use Rattle.std.proofs.Common.{◌≡◌, ℕ, zero, suc, ◌+◌, ◌-◌, ◌*◌, ◌/◌, ◌%◌, ◌<◌, ◌≤◌, List, [], ◌∷◌, length, get_or, take, set, sym, ap, ◌∙◌, mul-le-mul_right, mod-eq_of_lt, mul_assoc, mul-le-mul_left, one-mul, mul-one, mul-add, div-mul-le_self, div-one, mul_left_comm, add-one, arith}
 use native.Mathlib.Nat.{mod-le, add-mul-div_left, add-mul-mod_self_left, div-eq_of_lt, div-div-eq-div-mul}
-use Rattle.std.specs.List.{AllByRecursion as All}
+use Rattle.std.specs.List.{AllByRecursion}
 use Rattle.std.proofs.ByRecursion.{All-take}
 use Rattle.std.proofs.lemmas.List.{take_all}
 use Rattle.sas.specs.Model.{Valued, product}
@@ -12,10 +12,10 @@ use Rattle.sas.proofs.Outcomes.{state_set}
 use Rattle.sas.proofs.Products.{product_pos}
 use Rattle.sas.proofs.Unranks.{unrank, length_unrank, unrank_in, rank_of_unrank, unrank_rank}
 
-pub coefficient_pos : (sizes : List ℕ) (v : ℕ) → All (λ z. 0 < z) sizes → 0 < coefficient sizes v
+pub coefficient_pos : (sizes : List ℕ) (v : ℕ) → AllByRecursion (λ z. 0 < z) sizes → 0 < coefficient sizes v
 coefficient_pos sizes v pos = product_pos (take v sizes) (All-take (λ z. 0 < z) v sizes pos)
 
-pub coefficient_below : (sizes : List ℕ) (v : ℕ) → All (λ z. 0 < z) sizes → coefficient sizes v ≤ product sizes
+pub coefficient_below : (sizes : List ℕ) (v : ℕ) → AllByRecursion (λ z. 0 < z) sizes → coefficient sizes v ≤ product sizes
 coefficient_below sizes zero pos = product_pos sizes pos
 coefficient_below [] (suc v) pos = omega arith
 coefficient_below (z ∷ zs) (suc v) pos = mul-le-mul_left z (coefficient_below zs v pos.1)
@@ -32,7 +32,7 @@ pub coefficient_all : (sizes : List ℕ) (v : ℕ) → length sizes ≤ v → co
 coefficient_all sizes v l = ap product (take_all v sizes l)
 
 -- a digit's place and those before it make up no more than all
-pub coefficient_size : (sizes : List ℕ) (v : ℕ) → All (λ z. 0 < z) sizes → v < length sizes → coefficient sizes v * get_or sizes v 0 ≤ product sizes
+pub coefficient_size : (sizes : List ℕ) (v : ℕ) → AllByRecursion (λ z. 0 < z) sizes → v < length sizes → coefficient sizes v * get_or sizes v 0 ≤ product sizes
 coefficient_size sizes v pos l = omega (arith, coefficient_next sizes v l, coefficient_below sizes (suc v) pos)
 
 horner_set : (sizes s : List ℕ) (v x : ℕ) → v < length sizes → length s ≡ length sizes → horner sizes (set s v x) + get_or s v 0 * coefficient sizes v ≡ horner sizes s + x * coefficient sizes v
@@ -72,7 +72,7 @@ pub digit_is : (sizes s : List ℕ) → State sizes s → (v : ℕ) → v < leng
 digit_is sizes s h v l = horner_digit sizes s h v l ∙ ap (λ n. n / coefficient sizes v % get_or sizes v 0) (sym (rank_horner sizes s))
 
 -- a digit that is replaced in the rank k
-module _ (sizes : List ℕ) (pos : All (λ z. 0 < z) sizes) (k v x : ℕ) (low : k < product sizes) (valued : Valued sizes v x) where
+module _ (sizes : List ℕ) (pos : AllByRecursion (λ z. 0 < z) sizes) (k v x : ℕ) (low : k < product sizes) (valued : Valued sizes v x) where
   pub digit_fits : k / coefficient sizes v % get_or sizes v 0 * coefficient sizes v ≤ k
   digit_fits =
       let c = coefficient sizes v in

@@ -1,7 +1,7 @@
 -- A rank is a number in Horner's form, computed one variable at a time.
 use Rattle.std.proofs.Common.{◌≡◌, ℕ, zero, suc, ◌+◌, ◌*◌, ◌<◌, ◌≤◌, List, [], ◌∷◌, length, get_or, drop, sym, refl, ap, ◌∙◌, subst, mul_assoc, mul_comm, mul-le-mul_left, mul-zero, zero-mul, mul-one, mul-add, add-one, arith, drop-cons}
 use Rattle.std.proofs.lemmas.List.{drop_all}
-use Rattle.std.specs.List.{AllByRecursion as All}
+use Rattle.std.specs.List.{AllByRecursion}
 use Rattle.sas.specs.Model.{Model, Rules, product}
 use Rattle.sas.specs.States.{State}
 use Rattle.sas.specs.Ranks.{sum, coefficient, rank}
@@ -70,6 +70,6 @@ horner_low so_far c x z low within =
 -- within a turn nothing passes the number of states
 pub horner_fits : (m : Model) → Rules m → (xs s : List ℕ) → xs ≡ m.sizes → State m.sizes s → (so_far c i : ℕ) → so_far < c → c * product (drop i xs) ≡ product xs → i < length xs → (so_far + c * get_or s i 0 < c * get_or xs i 0) × (c * get_or xs i 0 ≤ 1048576)
 horner_fits m r xs s is h so_far c i low inv within =
-    let pos : All (λ z. 0 < z) xs = subst (All (λ z. 0 < z)) (sym is) (positive m r) in
+    let pos : AllByRecursion (λ z. 0 < z) xs = subst (AllByRecursion (λ z. 0 < z)) (sym is) (positive m r) in
     let less : get_or s i 0 < get_or xs i 0 = omega (arith, h.1 i (omega (arith, within, ap length is)), ap (λ ys. get_or ys i 0) is) in
     (horner_low so_far c (get_or s i 0) (get_or xs i 0) low less, omega (arith, product_below xs c i inv pos within, ap product is, r.few_states))

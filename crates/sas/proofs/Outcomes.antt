@@ -1,7 +1,7 @@
 -- What effects make of the values: they stand, every other value is kept, and a state stays one.
 use Rattle.std.proofs.Common.{◌≡◌, ℕ, suc, ◌+◌, ◌<◌, ◌≤◌, ◌⊎◌, List, [], ◌∷◌, map, length, get_or, drop, set, sym, refl, ap, ◌∙◌, inl, inr, arith, length-set, get_or-set_other, get_or-set_same}
 use native.Mathlib.Decide.{ℕ_discrete}
-use Rattle.std.specs.List.{ContainsAt as Has, AllByRecursion as All}
+use Rattle.std.specs.List.{ContainsAt, AllByRecursion}
 use Rattle.std.proofs.ByRecursion.{all-has, All-weaker, All-from_get_or, has_get_or}
 use Rattle.std.proofs.lemmas.List.{at_drop_more, at_drop_all, ext_get_or}
 use Rattle.sas.specs.declared.Fact.{Fact}
@@ -10,7 +10,7 @@ use Rattle.sas.specs.States.{State, Stands, outcome}
 
 -- v is the variable of none of the facts
 abbrev pub Outside : List Fact → ℕ → Type 0
-Outside fs v = All (λ f. f.variable ≡ v → ⊥) fs
+Outside fs v = AllByRecursion (λ f. f.variable ≡ v → ⊥) fs
 
 pub length_outcome : (fs : List Fact) (s : List ℕ) → length (outcome fs s) ≡ length s
 unfolding outcome
@@ -23,14 +23,14 @@ outcome_keeps [] s v h = refl
 outcome_keeps (f ∷ fs) s v h = outcome_keeps fs (set s f.variable f.value) v h.1 ∙ get_or-set_other s f.variable v f.value 0 (λ e. h.0 (sym e))
 
 -- the variables behind a first one differ from it
-pub outside_rest : (v : ℕ) (fs : List Fact) → All (λ y. v ≡ y → ⊥) (map (λ f. f.variable) fs) → Outside fs v
+pub outside_rest : (v : ℕ) (fs : List Fact) → AllByRecursion (λ y. v ≡ y → ⊥) (map (λ f. f.variable) fs) → Outside fs v
 outside_rest v [] h = tt
 outside_rest v (f ∷ fs) h = (λ e. h.0 (sym e), outside_rest v fs h.1)
 
-inside_set : (fs : List Fact) (s : List ℕ) (v x : ℕ) → All (λ f. f.variable < length s) fs → All (λ f. f.variable < length (set s v x)) fs
+inside_set : (fs : List Fact) (s : List ℕ) (v x : ℕ) → AllByRecursion (λ f. f.variable < length s) fs → AllByRecursion (λ f. f.variable < length (set s v x)) fs
 inside_set fs s v x h = All-weaker (λ f. f.variable < length s) (λ f. f.variable < length (set s v x)) (λ f l. omega (arith, l, length-set s v x)) fs h
 
-pub outcome_gives : (fs : List Fact) (s : List ℕ) → Distinct (map (λ f. f.variable) fs) → All (λ f. f.variable < length s) fs → All (λ f. get_or (outcome fs s) f.variable 0 ≡ f.value) fs
+pub outcome_gives : (fs : List Fact) (s : List ℕ) → Distinct (map (λ f. f.variable) fs) → AllByRecursion (λ f. f.variable < length s) fs → AllByRecursion (λ f. get_or (outcome fs s) f.variable 0 ≡ f.value) fs
 unfolding outcome
 outcome_gives [] s d h = tt
 outcome_gives (f ∷ fs) s d h =
@@ -38,7 +38,7 @@ outcome_gives (f ∷ fs) s d h =
     let here = outcome_keeps fs t f.variable (outside_rest f.variable fs d.0) ∙ get_or-set_same s f.variable f.value 0 h.0 in
     (here, outcome_gives fs t d.1 (inside_set fs s f.variable f.value h.1))
 
-pub outcome_stands : (fs : List Fact) (s : List ℕ) (f : Fact) → Distinct (map (λ g. g.variable) fs) → All (λ g. g.variable < length s) fs → Has fs f → Stands f (outcome fs s)
+pub outcome_stands : (fs : List Fact) (s : List ℕ) (f : Fact) → Distinct (map (λ g. g.variable) fs) → AllByRecursion (λ g. g.variable < length s) fs → ContainsAt fs f → Stands f (outcome fs s)
 unfolding Stands
 outcome_stands fs s f d h has = all-has (λ g. get_or (outcome fs s) g.variable 0 ≡ g.value) fs f (outcome_gives fs s d h) has
 
@@ -55,13 +55,13 @@ state_set sizes s v x h w = (
   ],
 )
 
-pub outcome_state : (sizes : List ℕ) (fs : List Fact) (s : List ℕ) → All (λ f. Valued sizes f.variable f.value) fs → State sizes s → State sizes (outcome fs s)
+pub outcome_state : (sizes : List ℕ) (fs : List Fact) (s : List ℕ) → AllByRecursion (λ f. Valued sizes f.variable f.value) fs → State sizes s → State sizes (outcome fs s)
 unfolding outcome
 outcome_state sizes [] s w h = h
 outcome_state sizes (f ∷ fs) s w h = outcome_state sizes fs (set s f.variable f.value) w.1 (state_set sizes s f.variable f.value h w.0)
 
 -- v is the variable of a fact, or of none
-pub among : (fs : List Fact) (v : ℕ) → ((f : Fact) × Has fs f × (f.variable ≡ v)) ⊎ Outside fs v
+pub among : (fs : List Fact) (v : ℕ) → ((f : Fact) × ContainsAt fs f × (f.variable ≡ v)) ⊎ Outside fs v
 among [] v = inr tt
 among (f ∷ fs) v =
     elim (ℕ_discrete f.variable v) [
@@ -72,11 +72,11 @@ among (f ∷ fs) v =
       ]
     ]
 
-pub outside_from_has : (fs : List Fact) (v : ℕ) → ((f : Fact) → Has fs f → f.variable ≡ v → ⊥) → Outside fs v
+pub outside_from_has : (fs : List Fact) (v : ℕ) → ((f : Fact) → ContainsAt fs f → f.variable ≡ v → ⊥) → Outside fs v
 outside_from_has fs v h = All-from_get_or (λ f. f.variable ≡ v → ⊥) fs (record { variable = 0; value = 0 }) (λ i l. h (get_or fs i (record { variable = 0; value = 0 })) (has_get_or fs i (record { variable = 0; value = 0 }) l))
 
 -- facts of distinct variables have the same outcome in whatever order
-pub outcome_same : (fs gs : List Fact) (s : List ℕ) → ((f : Fact) → Has fs f → Has gs f) → ((f : Fact) → Has gs f → Has fs f) → Distinct (map (λ f. f.variable) fs) → Distinct (map (λ f. f.variable) gs) → All (λ f. f.variable < length s) fs → All (λ f. f.variable < length s) gs → outcome fs s ≡ outcome gs s
+pub outcome_same : (fs gs : List Fact) (s : List ℕ) → ((f : Fact) → ContainsAt fs f → ContainsAt gs f) → ((f : Fact) → ContainsAt gs f → ContainsAt fs f) → Distinct (map (λ f. f.variable) fs) → Distinct (map (λ f. f.variable) gs) → AllByRecursion (λ f. f.variable < length s) fs → AllByRecursion (λ f. f.variable < length s) gs → outcome fs s ≡ outcome gs s
 unfolding Stands
 outcome_same fs gs s to from df dg inf ing = ext_get_or 0 (outcome fs s) (outcome gs s) (length_outcome fs s ∙ sym (length_outcome gs s)) (λ v l. elim (among fs v) [
   | inl h ↦

@@ -3,11 +3,11 @@ use Rattle.std.proofs.Common.{◌≡◌, ℕ, List, [], ◌∷◌, map}
 use mathlib.Core.Logic.{∥∥₁_elim}
 use denote.Struct.Props.{props}
 use native.Mathlib.Bridge.{le_prop}
-use Rattle.std.specs.List.{AllByRecursion as All}
+use Rattle.std.specs.List.{AllByRecursion}
 use Rattle.sas.specs.Model.{Action, Model, Distinct, Valued, ActionRules, Rules}
 
 -- what holds of each element is a proposition where it is one of each
-pub all_prop : {X : Type 0} (P : X → Type 0) → ((x : X) → IsProp (P x)) → (xs : List X) → IsProp (All P xs)
+pub all_prop : {X : Type 0} (P : X → Type 0) → ((x : X) → IsProp (P x)) → (xs : List X) → IsProp (AllByRecursion P xs)
 all_prop P h [] a b = λ i. tt
 all_prop P h (x ∷ xs) a b = λ i. (h x a.0 b.0 i, all_prop P h xs a.1 b.1 i)
 

@@ -1,6 +1,6 @@
 -- The laws of steps and of goal states.
 use Rattle.std.proofs.Common.{◌≡◌, ℕ, ◌<◌, Bool, ◌↔◌, List, [], ◌∷◌, length, get_or, Decides, sym, ◌∙◌, subst, arith}
-use Rattle.std.specs.List.{AllByRecursion as All}
+use Rattle.std.specs.List.{AllByRecursion}
 use Rattle.std.proofs.ByRecursion.{All-get_or, All-weaker}
 use Rattle.sas.specs.declared.Fact.{Fact}
 use Rattle.sas.specs.declared.Precondition.{Precondition}
@@ -18,7 +18,7 @@ pub stands_is : (f : Fact) (s : List ℕ) → Stands f s ↔ (get_or s f.variabl
 unfolding Stands
 stands_is f s = (λ h. h, λ h. h)
 
-pub applies_is : (m : Model) (o : ℕ) (s : List ℕ) → Applies m o s ↔ ((o < length m.operators) × State m.sizes s × All (λ p. Holds p s) (operator m o).preconditions)
+pub applies_is : (m : Model) (o : ℕ) (s : List ℕ) → Applies m o s ↔ ((o < length m.operators) × State m.sizes s × AllByRecursion (λ p. Holds p s) (operator m o).preconditions)
 unfolding Applies
 applies_is m o s = (λ h. h, λ h. h)
 
@@ -26,7 +26,7 @@ pub step_is : (m : Model) (o : ℕ) (s t : List ℕ) → Step m o s t ↔ (Appli
 unfolding Step
 step_is m o s t = (λ h. h, λ h. h)
 
-pub goal_is : (m : Model) (s : List ℕ) → Goal m s ↔ (State m.sizes s × All (λ f. Stands f s) m.goal)
+pub goal_is : (m : Model) (s : List ℕ) → Goal m s ↔ (State m.sizes s × AllByRecursion (λ f. Stands f s) m.goal)
 unfolding Goal
 goal_is m s = (λ h. h, λ h. h)
 
@@ -35,15 +35,15 @@ pub acting_at : (m : Model) → Rules m → (o : ℕ) → o < length m.operators
 acting_at m r o l = All-get_or (ActionRules m.sizes) m.operators o idle l r.acting
 
 -- variables with values are places of a state
-pub places : {X : Type 0} (variable value : X → ℕ) (sizes s : List ℕ) (xs : List X) → State sizes s → All (λ x. Valued sizes (variable x) (value x)) xs → All (λ x. variable x < length s) xs
+pub places : {X : Type 0} (variable value : X → ℕ) (sizes s : List ℕ) (xs : List X) → State sizes s → AllByRecursion (λ x. Valued sizes (variable x) (value x)) xs → AllByRecursion (λ x. variable x < length s) xs
 places variable value sizes s xs h w = All-weaker (λ x. Valued sizes (variable x) (value x)) (λ x. variable x < length s) (λ x l. omega (arith, l.0, h.0)) xs w
 
 -- what is asked of values that are there
-with_places : {X : Type 0} (P Q : X → Type 0) (xs : List X) → All Q xs → All P xs → All (λ x. Q x × P x) xs
+with_places : {X : Type 0} (P Q : X → Type 0) (xs : List X) → AllByRecursion Q xs → AllByRecursion P xs → AllByRecursion (λ x. Q x × P x) xs
 with_places P Q [] q p = tt
 with_places P Q (x ∷ xs) q p = ((q.0, p.0), with_places P Q xs q.1 p.1)
 
-decides_placed : {X : Type 0} (P Q : X → Type 0) (xs : List X) (b : Bool) → All Q xs → Decides b (All (λ x. Q x × P x) xs) → Decides b (All P xs)
+decides_placed : {X : Type 0} (P Q : X → Type 0) (xs : List X) (b : Bool) → AllByRecursion Q xs → Decides b (AllByRecursion (λ x. Q x × P x) xs) → Decides b (AllByRecursion P xs)
 decides_placed P Q xs b q d = (λ e. All-weaker (λ x. Q x × P x) P (λ x h. h.1) xs (d.0 e), λ p. d.1 (with_places P Q xs q p))
 
 -- a step leads from a state, and by an operator that is there
@@ -60,19 +60,19 @@ module _ (m : Model) (r : Rules m) where
       let parts = (applies_is m o s).0 a in
       outcome_state m.sizes (operator m o).effects s (acting_at m r o parts.0).effects_valued parts.1
 
-  pub effects_inside : (o : ℕ) (s : List ℕ) → Applies m o s → All (λ f. f.variable < length s) (operator m o).effects
+  pub effects_inside : (o : ℕ) (s : List ℕ) → Applies m o s → AllByRecursion (λ f. f.variable < length s) (operator m o).effects
   effects_inside o s a =
       let parts = (applies_is m o s).0 a in
       places (λ f. f.variable) (λ f. f.value) m.sizes s (operator m o).effects parts.1 (acting_at m r o parts.0).effects_valued
 
   -- where the preconditions are tested on values that are there
-  pub applies_decides : (o : ℕ) (s : List ℕ) (b : Bool) → o < length m.operators → State m.sizes s → Decides b (All (λ p. (p.variable < length s) × Holds p s) (operator m o).preconditions) → Decides b (Applies m o s)
+  pub applies_decides : (o : ℕ) (s : List ℕ) (b : Bool) → o < length m.operators → State m.sizes s → Decides b (AllByRecursion (λ p. (p.variable < length s) × Holds p s) (operator m o).preconditions) → Decides b (Applies m o s)
   applies_decides o s b l h d =
       let inside = places (λ p. p.variable) (λ p. p.value) m.sizes s (operator m o).preconditions h (acting_at m r o l).preconditions_valued in
       let e = decides_placed (λ p. Holds p s) (λ p. p.variable < length s) (operator m o).preconditions b inside d in
       (λ t. (applies_is m o s).1 (l, h, e.0 t), λ a. e.1 ((applies_is m o s).0 a).2)
 
-  pub goal_decides : (s : List ℕ) (b : Bool) → State m.sizes s → Decides b (All (λ f. (f.variable < length s) × Stands f s) m.goal) → Decides b (Goal m s)
+  pub goal_decides : (s : List ℕ) (b : Bool) → State m.sizes s → Decides b (AllByRecursion (λ f. (f.variable < length s) × Stands f s) m.goal) → Decides b (Goal m s)
   goal_decides s b h d =
       let inside = places (λ f. f.variable) (λ f. f.value) m.sizes s m.goal h r.goal_valued in
       let e = decides_placed (λ f. Stands f s) (λ f. f.variable < length s) m.goal b inside d in

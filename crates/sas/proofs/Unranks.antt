@@ -1,7 +1,7 @@
 -- The state of a rank; states and the numbers below their count correspond one to one.
 use Rattle.std.proofs.Common.{◌≡◌, ℕ, zero, suc, ◌+◌, ◌*◌, ◌/◌, ◌%◌, ◌<◌, ◌≤◌, List, [], ◌∷◌, ◌++◌, length, get_or, take, drop, set, sym, refl, ap, ◌∙◌, mod-lt, mod-eq_of_lt, mul_comm, div-lt_iff_lt-mul, add-one, arith}
 use native.Mathlib.Nat.{mod-add-div, add-mul-div_left, add-mul-mod_self_left, div-eq_of_lt}
-use Rattle.std.specs.List.{AllByRecursion as All}
+use Rattle.std.specs.List.{AllByRecursion}
 use Rattle.std.proofs.lemmas.List.{drop_all, take_all, append-nil}
 use Rattle.sas.specs.Model.{Model, Rules, product}
 use Rattle.sas.specs.States.{State}
@@ -17,12 +17,12 @@ pub length_unrank : (sizes : List ℕ) (k : ℕ) → length (unrank sizes k) ≡
 length_unrank [] k = refl
 length_unrank (z ∷ zs) k = ap suc (length_unrank zs (k / z))
 
-unrank_low : (sizes : List ℕ) (k i : ℕ) → All (λ z. 0 < z) sizes → i < length sizes → get_or (unrank sizes k) i 0 < get_or sizes i 0
+unrank_low : (sizes : List ℕ) (k i : ℕ) → AllByRecursion (λ z. 0 < z) sizes → i < length sizes → get_or (unrank sizes k) i 0 < get_or sizes i 0
 unrank_low [] k i h l = absurd (omega arith)
 unrank_low (z ∷ zs) k zero h l = mod-lt k h.0
 unrank_low (z ∷ zs) k (suc i) h l = unrank_low zs (k / z) i h.1 (omega arith)
 
-horner_unrank : (sizes : List ℕ) (k : ℕ) → All (λ z. 0 < z) sizes → k < product sizes → horner sizes (unrank sizes k) ≡ k
+horner_unrank : (sizes : List ℕ) (k : ℕ) → AllByRecursion (λ z. 0 < z) sizes → k < product sizes → horner sizes (unrank sizes k) ≡ k
 horner_unrank [] k h l = omega arith
 horner_unrank (z ∷ zs) k h l =
     let less : k / z < product zs = (div-lt_iff_lt-mul h.0).1 (omega (arith, mul_comm z (product zs))) in
@@ -44,10 +44,10 @@ unrank_horner (z ∷ zs) (x ∷ xs) h =
     rw (m, d, rest) refl
 
 -- of any sizes above 0
-pub unrank_in : (sizes : List ℕ) → All (λ z. 0 < z) sizes → (k : ℕ) → State sizes (unrank sizes k)
+pub unrank_in : (sizes : List ℕ) → AllByRecursion (λ z. 0 < z) sizes → (k : ℕ) → State sizes (unrank sizes k)
 unrank_in sizes pos k = (length_unrank sizes k, λ i l. unrank_low sizes k i pos l)
 
-pub rank_of_unrank : (sizes : List ℕ) → All (λ z. 0 < z) sizes → (k : ℕ) → k < product sizes → rank sizes (unrank sizes k) ≡ k
+pub rank_of_unrank : (sizes : List ℕ) → AllByRecursion (λ z. 0 < z) sizes → (k : ℕ) → k < product sizes → rank sizes (unrank sizes k) ≡ k
 rank_of_unrank sizes pos k l = rank_horner sizes (unrank sizes k) ∙ horner_unrank sizes k pos l
 
 pub unrank_state : (m : Model) → Rules m → (k : ℕ) → State m.sizes (unrank m.sizes k)

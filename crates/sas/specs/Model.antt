@@ -1,6 +1,6 @@
 -- What a planning task is: variables with finitely many values, a goal, and operators; and the rules of a bench's tasks.
 use Rattle.std.specs.Prelude.{ℕ, ◌*◌, ◌<◌, ◌≤◌, List, [], ◌∷◌, map, length, ◌≢◌, slice_index}
-use Rattle.std.specs.List.{AllByRecursion as All}
+use Rattle.std.specs.List.{AllByRecursion}
 use Rattle.sas.specs.declared.Precondition.{Precondition}
 use Rattle.sas.specs.declared.Fact.{Fact}
 
@@ -22,7 +22,7 @@ product (x ∷ xs) = x * product xs
 -- no number twice
 abbrev pub Distinct : List ℕ → Type 0
 Distinct [] = Unit {0}
-Distinct (x ∷ xs) = All (λ y. x ≢ y) xs × Distinct xs
+Distinct (x ∷ xs) = AllByRecursion (λ y. x ≢ y) xs × Distinct xs
 
 -- v is a variable, and x is one of its values
 abbrev pub Valued : List ℕ → ℕ → ℕ → Type 0
@@ -32,8 +32,8 @@ pub record ActionRules (sizes : List ℕ) (a : Action) : Type 0 where
   pub few_preconditions : length a.preconditions ≤ 8
   pub some_effects : 1 ≤ length a.effects
   pub few_effects : length a.effects ≤ 8
-  pub preconditions_valued : All (λ p. Valued sizes p.variable p.value) a.preconditions
-  pub effects_valued : All (λ f. Valued sizes f.variable f.value) a.effects
+  pub preconditions_valued : AllByRecursion (λ p. Valued sizes p.variable p.value) a.preconditions
+  pub effects_valued : AllByRecursion (λ f. Valued sizes f.variable f.value) a.effects
   pub preconditions_distinct : Distinct (map (λ p. p.variable) a.preconditions)
   pub effects_distinct : Distinct (map (λ f. f.variable) a.effects)
 
@@ -41,9 +41,9 @@ pub record ActionRules (sizes : List ℕ) (a : Action) : Type 0 where
 pub record Rules (m : Model) : Type 0 where
   pub some_variables : 1 ≤ length m.sizes
   pub few_variables : length m.sizes ≤ 16
-  pub sized : All (λ z. (2 ≤ z) × (z ≤ 16)) m.sizes
+  pub sized : AllByRecursion (λ z. (2 ≤ z) × (z ≤ 16)) m.sizes
   pub few_states : product m.sizes ≤ 1048576
-  pub goal_valued : All (λ f. Valued m.sizes f.variable f.value) m.goal
+  pub goal_valued : AllByRecursion (λ f. Valued m.sizes f.variable f.value) m.goal
   pub goal_distinct : Distinct (map (λ f. f.variable) m.goal)
   pub few_operators : length m.operators ≤ 128
-  pub acting : All (ActionRules m.sizes) m.operators
+  pub acting : AllByRecursion (ActionRules m.sizes) m.operators

@@ -1,13 +1,13 @@
 -- Equality of tasks, as sets; and what equal tasks share.
 use Rattle.std.specs.Prelude.{◌≡◌, ℕ, ◌<◌, List, length}
-use Rattle.std.specs.List.{ContainsAt as Has}
+use Rattle.std.specs.List.{ContainsAt}
 use Rattle.sas.specs.Model.{Action, Model}
 use Rattle.sas.specs.States.{State, Step, Goal, operator}
 use Rattle.sas.specs.Ranks.{states, rank}
 
 -- the same elements, in whatever order and however often
 abbrev pub SameSet : {X : Type 0} → List X → List X → Type 0
-SameSet {X} xs ys = ((x : X) → Has xs x → Has ys x) × ((x : X) → Has ys x → Has xs x)
+SameSet {X} xs ys = ((x : X) → ContainsAt xs x → ContainsAt ys x) × ((x : X) → ContainsAt ys x → ContainsAt xs x)
 
 pub record SameAction (a b : Action) : Type 0 where
   pub preconditions : SameSet a.preconditions b.preconditions

@@ -1,6 +1,6 @@
 -- States, where an operator applies, what it makes of a state, and where the goal holds.
 use Rattle.std.specs.Prelude.{◌≡◌, ℕ, ◌<◌, List, [], ◌∷◌, length, slice_index, slice_index_or, slice_set}
-use Rattle.std.specs.List.{AllByRecursion as All}
+use Rattle.std.specs.List.{AllByRecursion}
 use Rattle.sas.specs.declared.Precondition.{Precondition}
 use Rattle.sas.specs.declared.Fact.{Fact}
 use Rattle.sas.specs.Model.{Action, Model}
@@ -24,7 +24,7 @@ Stands f s = slice_index s f.variable ≡ f.value
 
 -- o is an operator whose preconditions hold in the state s
 unfoldable pub Applies : Model → ℕ → List ℕ → Type 0
-Applies m o s = (o < length m.operators) × State m.sizes s × All (λ p. Holds p s) (operator m o).preconditions
+Applies m o s = (o < length m.operators) × State m.sizes s × AllByRecursion (λ p. Holds p s) (operator m o).preconditions
 
 -- s with the effects put in, and every other value kept
 unfoldable pub outcome : List Fact → List ℕ → List ℕ
@@ -37,4 +37,4 @@ Step m o s t = Applies m o s × (t ≡ outcome (operator m o).effects s)
 
 -- a goal state has every value that the goal gives
 unfoldable pub Goal : Model → List ℕ → Type 0
-Goal m s = State m.sizes s × All (λ f. Stands f s) m.goal
+Goal m s = State m.sizes s × AllByRecursion (λ f. Stands f s) m.goal

@@ -2,7 +2,7 @@
 // row nothing changes.
 ghost use Rattle.std.specs.Prelude.{◌≡◌, ◌<◌, map, length, IfOk, slice_set};
 ghost use Rattle.session.specs.Rows.{freed, row_at, table, with_bar, with_cost};
-ghost use Rattle.std.specs.List.{AllByRecursion as All};
+ghost use Rattle.std.specs.List.{AllByRecursion};
 
 use std::alloc::{AllocError, Global};
 
@@ -20,7 +20,7 @@ pub struct Rows {
 impl Rows {
     // A row with each cost, and no bar.
     pub(crate) fn new(heap: Global, costs: &[u32]) -> Result<Rows, AllocError>
-        requires { All (λ c. c < 65536) costs.now }
+        requires { AllByRecursion (λ c. c < 65536) costs.now }
         ensures { IfOk result (λ t. table t ≡ map freed costs.now) }
     {
         let mut rows = Vec::new(heap);

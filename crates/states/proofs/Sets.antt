@@ -1,13 +1,13 @@
 -- Lists with the same elements, by tests of equality that are exact.
 use Rattle.std.proofs.Common.{◌≡◌, ℕ, ◌<◌, Bool, true, false, eqb, List, length, get_or, Decides, sym, subst}
-use Rattle.std.specs.List.{IsAnyAnswer, ContainsAt as Has}
+use Rattle.std.specs.List.{IsAnyAnswer, ContainsAt}
 use Rattle.std.proofs.lemmas.List.Elements.{contains_decides as has-from-contains}
 use Rattle.std.proofs.ByRecursion.{has_get_or}
 use Rattle.states.specs.Sets.{Exact}
 use Rattle.std.proofs.lemmas.Bool.Decides.{Decides-eqb}
 
 -- `contains` decides whether the element is there
-pub contains_decides : {X : Type 0} (answers : X → X → Bool → Type 0) → Exact answers → (xs : List X) (x : X) (b : Bool) → IsAnyAnswer (λ y. answers y x) xs b → Decides b (Has xs x)
+pub contains_decides : {X : Type 0} (answers : X → X → Bool → Type 0) → Exact answers → (xs : List X) (x : X) (b : Bool) → IsAnyAnswer (λ y. answers y x) xs b → Decides b (ContainsAt xs x)
 contains_decides answers exact xs x b h = has-from-contains eqb Decides-eqb xs x b (turned b h)
   where
     turned : (t : Bool) → IsAnyAnswer (λ y. answers y x) xs t → IsAnyAnswer (λ y s. Decides s (y ≡ x)) xs t
@@ -15,8 +15,8 @@ contains_decides answers exact xs x b h = has-from-contains eqb Decides-eqb xs x
     turned false none = λ k d low high. exact (get_or xs k d) x false (none k d low high)
 
 -- an element that is read stands in the list
-pub has_read : {X : Type 0} (xs : List X) (i : ℕ) (x : X) → i < length xs → x ≡ get_or xs i x → Has xs x
-has_read xs i x within read = subst (Has xs) (sym read) (has_get_or xs i x within)
+pub has_read : {X : Type 0} (xs : List X) (i : ℕ) (x : X) → i < length xs → x ≡ get_or xs i x → ContainsAt xs x
+has_read xs i x within read = subst (ContainsAt xs) (sym read) (has_get_or xs i x within)
 
 -- the same test, of what is equal
 pub decides_at : {X Y : Type 0} (R : X → Y → Type 0) (b : Bool) (x u : X) (y v : Y) → x ≡ u → y ≡ v → Decides b (R x y) → Decides b (R u v)

@@ -2,7 +2,7 @@
 ghost use Rattle.std.specs.Prelude.{◌≡◌, true, map, Decides};
 ghost use Rattle.sas.specs.Same.{Alike, Same, SameAction, SameSet};
 ghost use Rattle.states.specs.Sets.{Exact, SameActions};
-ghost use Rattle.std.specs.List.{ContainsAt as Has};
+ghost use Rattle.std.specs.List.{ContainsAt};
 ghost use Rattle.tasks.specs.Parts.{action};
 ghost use Rattle.tasks.specs.View.{model_of};
 
@@ -10,7 +10,7 @@ use tasks::{Operator, Task};
 
 // Whether the second has each element of the first.
 fn included<T: PartialEq>(a: &[T], b: &[T]) -> bool
-    ensures { Exact (λ x' y' r'. r' ≡ T.PartialEq.eq x' y') → Decides result ((x : T) → Has a.now x → Has b.now x) }
+    ensures { Exact (λ x' y' r'. r' ≡ T.PartialEq.eq x' y') → Decides result ((x : T) → ContainsAt a.now x → ContainsAt b.now x) }
 {
     for x in a {
         if !b.contains(x) {

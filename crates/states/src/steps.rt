@@ -2,7 +2,7 @@
 ghost use Rattle.std.specs.Prelude.{◌≡◌, ℕ, ◌<◌, true, false, List, length, Decides, MatchOption, slice_index};
 ghost use Rattle.sas.specs.Ranks.{GoalRank, StepRank, states};
 ghost use Rattle.sas.specs.States.{Applies, Goal, Holds, Stands, Step, outcome};
-ghost use Rattle.std.specs.List.{AllByRecursion as All};
+ghost use Rattle.std.specs.List.{AllByRecursion};
 ghost use Rattle.tasks.specs.View.{model_of};
 
 use crate::counts::{state_count, variables};
@@ -44,7 +44,7 @@ impl Condition for Fact {
 }
 
 fn all_met<C: Condition>(conditions: &[C], values: &[u8]) -> bool
-    ensures { Decides result (All (λ c. C.Condition.met c values.now) conditions.now) }
+    ensures { Decides result (AllByRecursion (λ c. C.Condition.met c values.now) conditions.now) }
 {
     for condition in conditions {
         if !condition.is_met(values) {
@@ -80,7 +80,7 @@ pub fn is_goal(task: &Task, values: &[u8]) -> bool
 
 // Puts effects in.
 fn put(effects: &[Fact], values: &mut [u8])
-    requires { All (λ f. f.variable < length values.old) effects.now }
+    requires { AllByRecursion (λ f. f.variable < length values.old) effects.now }
     ensures { values.new ≡ outcome effects.now values.old }
 {
     for f in effects {

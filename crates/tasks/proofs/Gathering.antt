@@ -1,5 +1,5 @@
 -- Loops that gather a list element by element.
-use Rattle.std.proofs.Common.{◌≡◌, ℕ, ◌+◌, ◌<◌, ◌≤◌, List, [], ◌∷◌, ◌++◌, map, length, get_or, take, drop, Option, sym, refl, ap, ◌∙◌, append_assoc, add-one, arith, take_all}
+use Rattle.std.proofs.Common.{◌≡◌, ℕ, ◌+◌, ◌<◌, ◌≤◌, List, [], ◌∷◌, ◌++◌, map, length, get_or, take, drop, Option, sym, refl, ap, ◌∙◌, append_assoc, arith, take_all}
 use Rattle.std.proofs.lemmas.List.{length-map, get_or-map, take_more, drop_more, drop_all, append-nil}
 use Rattle.sas.specs.declared.Fact.{Fact}
 use Rattle.cards.specs.Content.{aim, goal_from}

@@ -1,5 +1,5 @@
 -- From what was read to the task and to what is promised of it.
-use Rattle.std.proofs.Common.{◌≡◌, ℕ, ◌≤◌, List, [], ◌∷◌, map, length, Ok, Err, vec_items, Result, Vec, sym, refl, ap, ◌∙◌, subst}
+use Rattle.std.proofs.Common.{◌≡◌, ℕ, List, [], ◌∷◌, map, Ok, Err, vec_items, Result, Vec, sym, refl, ap, ◌∙◌}
 use Rattle.cards.specs.Content as spoken
 use Rattle.cards.specs.Content.{Content, Lawful, task_of}
 use Rattle.cards.specs.Faults.{Tells}

@@ -1,5 +1,5 @@
 -- The model of a task, from the parts that a task holds.
-use Rattle.std.specs.Prelude.{ℕ, List, map, vec_items, Vec}
+use Rattle.std.specs.Prelude.{ℕ, map, vec_items, Vec}
 use Rattle.std.specs.declared.alloc.Global.{Global}
 use Rattle.sas.specs.declared.Fact.{Fact}
 use Rattle.sas.specs.Model.{Action, Model}

@@ -1,6 +1,6 @@
 // Projects a task onto a pattern.
 ghost use Rattle.std.specs.Prelude.{◌≡◌, ◌<◌, ◌≤◌, map, IfOk, OnOk};
-ghost use Rattle.std.specs.List.{AllByRecursion as All};
+ghost use Rattle.std.specs.List.{AllByRecursion};
 ghost use Rattle.sas.specs.Model.{product};
 ghost use Rattle.tasks.specs.Parts as Tasks;
 ghost use Rattle.tasks.specs.View.{model_of};
@@ -58,7 +58,7 @@ fn kept_elements<T: Copy>(heap: Global, all: &[T], pattern: &[u8]) -> Result<Vec
 
 // The coefficient of each variable.
 fn scaled(heap: Global, sizes: &[u8]) -> Result<Vec<usize>, AllocError>
-    requires sized { All (λ z. 0 < z) sizes.now }
+    requires sized { AllByRecursion (λ z. 0 < z) sizes.now }
     requires few { product sizes.now ≤ 1048576 }
     ensures { IfOk result (λ v. v.items ≡ scales sizes.now) }
 {

@@ -1,6 +1,6 @@
 // Steps and goals of a projected task, by rank, and the way back over an operator.
 ghost use Rattle.std.specs.Prelude.{◌≡◌, ℕ, ◌<◌, ◌≤◌, Decides, MatchOption};
-ghost use Rattle.std.specs.List.{AllByRecursion as All};
+ghost use Rattle.std.specs.List.{AllByRecursion};
 ghost use Rattle.sas.specs.Model.{product};
 ghost use Rattle.sas.specs.Ranks.{GoalRank, states};
 ghost use Rattle.projections.specs.Origins.{Origin, free, offset, ways};
@@ -14,7 +14,7 @@ use crate::digits::{all_stand, folded_rank, offset_of, ways_of, written};
 
 // The product of the sizes.
 fn product_of(sizes: &[u8]) -> usize
-    requires sized { All (λ z. (2 ≤ z) × (z ≤ 16)) sizes.now }
+    requires sized { AllByRecursion (λ z. (2 ≤ z) × (z ≤ 16)) sizes.now }
     requires few { product sizes.now ≤ 1048576 }
     ensures { result ≡ product sizes.now }
 {

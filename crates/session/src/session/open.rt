@@ -1,7 +1,7 @@
 // A session is opened on a task, costs and the values of a state.
 ghost use Rattle.std.specs.Prelude.{◌<◌, Decides};
 ghost use Rattle.session.specs.Opening.{Opened};
-ghost use Rattle.std.specs.List.{AllByRecursion as All};
+ghost use Rattle.std.specs.List.{AllByRecursion};
 ghost use Rattle.tasks.specs.View.{model_of};
 
 use super::Session;
@@ -11,7 +11,7 @@ use std::alloc::Global;
 use tasks::Task;
 
 fn payable(costs: &[u32]) -> bool
-    ensures { Decides result (All (λ c. c < 65536) costs.now) }
+    ensures { Decides result (AllByRecursion (λ c. c < 65536) costs.now) }
 {
     for c in costs {
         if *c > 65535 {

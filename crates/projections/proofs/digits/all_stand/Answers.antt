@@ -1,6 +1,6 @@
 -- Each fact that is passed stands, and one that does not ends the search.
 use Rattle.std.proofs.Common.{◌≡◌, ◌<◌, length, sym, refl, ◌∙◌, subst}
-use Rattle.std.specs.List.{AllByRecursion as All}
+use Rattle.std.specs.List.{AllByRecursion}
 use Rattle.std.proofs.ByRecursion.{All-get_or, All-more}
 use Rattle.std.proofs.lemmas.List.{take_all}
 use Rattle.std.proofs.lemmas.Bool.{false≢true}
@@ -17,4 +17,4 @@ pub loop-f-preserved : goal.loop-f-preserved
 loop-f-preserved c = All-more (λ f. digit c.args.sizes.now f.variable c.args.rank ≡ f.value) c.args.facts.now c.loop-f.f-index _ c.loop-f-test.true c.loop-f.invariant (sym c.value-of.ensures ∙ c.if-value-of-f.false)
 
 pub returns : goal.returns
-returns c = (λ _. subst (All (λ f. digit c.args.sizes.now f.variable c.args.rank ≡ f.value)) (take_all c.loop-f.f-index c.args.facts.now c.loop-f-test.false) c.loop-f.invariant, λ _. refl)
+returns c = (λ _. subst (AllByRecursion (λ f. digit c.args.sizes.now f.variable c.args.rank ≡ f.value)) (take_all c.loop-f.f-index c.args.facts.now c.loop-f-test.false) c.loop-f.invariant, λ _. refl)

@@ -1,6 +1,6 @@
 -- Each fact replaces a digit, and writes the value into the state.
 use Rattle.std.proofs.Common.{ℕ, ◌+◌, ◌<◌, List, length, get_or, drop, sym, refl, ap, ◌∙◌, arith}
-use Rattle.std.specs.List.{AllByRecursion as All}
+use Rattle.std.specs.List.{AllByRecursion}
 use Rattle.std.proofs.ByRecursion.{All-get_or}
 use Rattle.sas.specs.Model.{Valued}
 use Rattle.sas.specs.Ranks as Ranks
@@ -12,7 +12,7 @@ use Rattle.projections.proofs.Scales.{sizes_positive, scale_there, scaled_few, t
 use Rattle.projections.proofs.digits.written.Goals as goal
 
 -- the fact of a turn
-valued_at : (sizes : List ℕ) (facts : List Fact) (i : ℕ) → i < length facts → All (λ f. Valued sizes f.variable f.value) facts → Valued sizes (get_or facts i (record { variable = 0; value = 0 })).variable (get_or facts i (record { variable = 0; value = 0 })).value
+valued_at : (sizes : List ℕ) (facts : List Fact) (i : ℕ) → i < length facts → AllByRecursion (λ f. Valued sizes f.variable f.value) facts → Valued sizes (get_or facts i (record { variable = 0; value = 0 })).variable (get_or facts i (record { variable = 0; value = 0 })).value
 valued_at sizes facts i l h = All-get_or (λ f. Valued sizes f.variable f.value) facts i (record { variable = 0; value = 0 }) l h
 
 pub value-of-old-requires : goal.value-of-old-requires

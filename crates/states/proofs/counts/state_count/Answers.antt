@@ -1,6 +1,6 @@
 -- The product of the sizes, which the rules bound.
 use Rattle.std.proofs.Common.{◌<◌, sym, ap, ◌∙◌, subst, arith}
-use Rattle.std.specs.List.{AllByRecursion as All}
+use Rattle.std.specs.List.{AllByRecursion}
 use Rattle.sas.specs.Model.{product}
 use Rattle.sas.specs.Ranks.{states}
 use Rattle.sas.proofs.Products.{positive, product_more, product_all, product_below}
@@ -11,7 +11,7 @@ pub overflow-mul-count : goal.overflow-mul-count
 overflow-mul-count c =
     let r = c.sizes-sizes.ensures.rules in
     let is = c.sizes-sizes.ensures.value in
-    let pos = subst (All (λ z. 0 < z)) (sym is) (positive (model_of c.args.task.now) r) in
+    let pos = subst (AllByRecursion (λ z. 0 < z)) (sym is) (positive (model_of c.args.task.now) r) in
     omega (arith, product_below c.sizes-sizes.result.now c.loop-z.count c.loop-z.z-index c.loop-z.invariant pos c.loop-z-test.true, ap product is, r.few_states)
 
 pub loop-z-preserved : goal.loop-z-preserved

@@ -1,6 +1,6 @@
 -- The tests of each element decide whether all are there.
 use Rattle.std.proofs.Common.{sym, refl, ◌∙◌, subst}
-use Rattle.std.specs.List.{ContainsAt as Has, AllByRecursion as All}
+use Rattle.std.specs.List.{ContainsAt, AllByRecursion}
 use Rattle.std.proofs.ByRecursion.{all-has}
 use Rattle.std.proofs.lemmas.List.{take_all}
 use Rattle.std.proofs.lemmas.Bool.{false≢true}
@@ -22,10 +22,10 @@ pub loop-x-preserved : goal.loop-x-preserved
 loop-x-preserved g c exact =
     let x = c.x-item.result in
     let d = contains_decides g.T.PartialEq.equals exact c.args.b.now x c.contains.result c.contains.ensures.cases in
-    each_more (Has c.args.b.now) c.args.a.now c.loop-x.x-index x c.loop-x-test.true c.x-item.is (c.loop-x.invariant exact) (d.0 c.if-not-contains.false)
+    each_more (ContainsAt c.args.b.now) c.args.a.now c.loop-x.x-index x c.loop-x-test.true c.x-item.is (c.loop-x.invariant exact) (d.0 c.if-not-contains.false)
 
 pub returns : goal.returns
 returns g c exact =
     let a = c.args.a.now in
-    let all = subst (All (Has c.args.b.now)) (take_all c.loop-x.x-index a c.loop-x-test.false) (c.loop-x.invariant exact) in
-    (λ _. λ x has. all-has (Has c.args.b.now) a x all has, λ _. refl)
+    let all = subst (AllByRecursion (ContainsAt c.args.b.now)) (take_all c.loop-x.x-index a c.loop-x-test.false) (c.loop-x.invariant exact) in
+    (λ _. λ x has. all-has (ContainsAt c.args.b.now) a x all has, λ _. refl)

@@ -1,6 +1,6 @@
 -- The tests of the number, the state and the preconditions decide whether the operator applies.
 use Rattle.std.proofs.Common.{◌<◌, length, Decides, sym, ap, ◌∙◌, subst, arith}
-use Rattle.std.specs.List.{AllByRecursion as All}
+use Rattle.std.specs.List.{AllByRecursion}
 use Rattle.std.proofs.lemmas.Bool.{false≢true}
 use Rattle.sas.specs.States.{Holds}
 use Rattle.sas.proofs.Rules.{rules}
@@ -28,4 +28,4 @@ returns c =
     let read = operator_read m xs o c.index-operators-operator.result listed c.if-operator-operators.false c.index-operators-operator.is in
     let asked = c.preconditions.ensures ∙ ap (λ a. a.preconditions) read in
     applies_decides m (rules m t.rules) o s c.all-met.result (omega (arith, c.if-operator-operators.false, operator_count m xs listed)) (c.is-state.ensures.0 c.if-not-is-state.false)
-    (subst (λ ps. Decides c.all-met.result (All (λ p. (p.variable < length s) × Holds p s) ps)) asked c.all-met.ensures)
+    (subst (λ ps. Decides c.all-met.result (AllByRecursion (λ p. (p.variable < length s) × Holds p s) ps)) asked c.all-met.ensures)

@@ -1,6 +1,6 @@
 -- Where the operator applies, the effects that are put in make its step.
 use Rattle.std.proofs.Common.{◌<◌, length, sym, ap, ◌∙◌, subst, arith}
-use Rattle.std.specs.List.{AllByRecursion as All}
+use Rattle.std.specs.List.{AllByRecursion}
 use Rattle.std.proofs.lemmas.Bool.{false≢true}
 use Rattle.sas.specs.States.{outcome, operator}
 use Rattle.sas.proofs.Rules.{rules}
@@ -30,7 +30,7 @@ put-requires c =
     let applies = c.applies.ensures.0 c.if-not-applies.false in
     let within : o < length xs = omega (arith, ((applies_is m o s).0 applies).0, operator_count m xs c.operators.ensures) in
     let read = operator_read m xs o c.index-operators-operator.result c.operators.ensures within c.index-operators-operator.is in
-    subst (All (λ f. f.variable < length s)) (sym (c.effects.ensures ∙ ap (λ a. a.effects) read)) (effects_inside m (rules m t.rules) o s applies)
+    subst (AllByRecursion (λ f. f.variable < length s)) (sym (c.effects.ensures ∙ ap (λ a. a.effects) read)) (effects_inside m (rules m t.rules) o s applies)
 
 pub returns : goal.returns
 returns c =

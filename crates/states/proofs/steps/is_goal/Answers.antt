@@ -1,6 +1,6 @@
 -- The tests of the state and the goal decide whether it is a goal state.
 use Rattle.std.proofs.Common.{◌<◌, length, Decides, sym, ◌∙◌, subst}
-use Rattle.std.specs.List.{AllByRecursion as All}
+use Rattle.std.specs.List.{AllByRecursion}
 use Rattle.std.proofs.lemmas.Bool.{false≢true}
 use Rattle.sas.specs.States.{Stands}
 use Rattle.sas.proofs.Rules.{rules}
@@ -15,4 +15,4 @@ pub returns : goal.returns
 returns c =
     let t = c.args.task.now in
     let s = c.args.values.now in
-    goal_decides (model_of t) (rules (model_of t) t.rules) s c.all-met.result (c.is-state.ensures.0 c.if-not-is-state.false) (subst (λ fs. Decides c.all-met.result (All (λ f. (f.variable < length s) × Stands f s) fs)) c.goal.ensures c.all-met.ensures)
+    goal_decides (model_of t) (rules (model_of t) t.rules) s c.all-met.result (c.is-state.ensures.0 c.if-not-is-state.false) (subst (λ fs. Decides c.all-met.result (AllByRecursion (λ f. (f.variable < length s) × Stands f s) fs)) c.goal.ensures c.all-met.ensures)

@@ -1,6 +1,6 @@
 -- The test of the goal's digits decides, below the number of states.
 use Rattle.std.proofs.Common.{◌≡◌, ◌<◌, length, Decides, sym, arith}
-use Rattle.std.specs.List.{AllByRecursion as All}
+use Rattle.std.specs.List.{AllByRecursion}
 use Rattle.std.proofs.lemmas.Bool.{ltb-true}
 use Rattle.sas.proofs.Moves.{goal_rank_inside}
 use Rattle.projections.specs.Parts.{digit}
@@ -14,13 +14,13 @@ all-stand-requires c =
     let p = c.args.self.now in
     record {
       laid = (places_of p, held_laid p _ _ _ c.as-slice.ensures.value c.as-slice-then-rank-states.ensures.value (λ i. places_of p));
-      inside = across (λ zs fs. All (λ f. f.variable < length zs) fs) c.as-slice.ensures.value c.as-slice-then-rank-states-2.ensures.value (within _ _ (held_shaped p).goal_valued);
+      inside = across (λ zs fs. AllByRecursion (λ f. f.variable < length zs) fs) c.as-slice.ensures.value c.as-slice-then-rank-states-2.ensures.value (within _ _ (held_shaped p).goal_valued);
     }
 
 pub returns-then-rank-states : goal.returns-then-rank-states
 returns-then-rank-states c =
     let p = c.args.self.now in
-    let d = across (λ zs fs. Decides c.all-stand.result (All (λ f. digit zs f.variable c.args.rank ≡ f.value) fs)) (sym c.as-slice.ensures.value) (sym c.as-slice-then-rank-states-2.ensures.value) c.all-stand.ensures in
+    let d = across (λ zs fs. Decides c.all-stand.result (AllByRecursion (λ f. digit zs f.variable c.args.rank ≡ f.value) fs)) (sym c.as-slice.ensures.value) (sym c.as-slice-then-rank-states-2.ensures.value) c.all-stand.ensures in
     goal_decides (view_of p) (held_shaped p) c.args.rank (omega (arith, c.if-rank-states.true, c.states.ensures.count)) c.all-stand.result d
 
 pub returns-else-rank-states : goal.returns-else-rank-states

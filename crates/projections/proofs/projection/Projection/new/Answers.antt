@@ -1,6 +1,6 @@
 -- The parts are those of the projected task, which keeps its shape and the laws.
 use Rattle.std.proofs.Common.{◌≡◌, ◌<◌, ◌≤◌, map, vec_items, sym, ap, ◌∙◌, subst}
-use Rattle.std.specs.List.{AllByRecursion as All}
+use Rattle.std.specs.List.{AllByRecursion}
 use Rattle.sas.specs.Model.{product}
 use Rattle.sas.proofs.Products.{positive}
 use Rattle.tasks.specs.View.{model_of}
@@ -18,14 +18,14 @@ scaled-requires c =
     let m = model_of c.args.task.now in
     let r = c.sizes.ensures.rules in
     let is : c.as-slice.result.now ≡ only keep m.sizes = c.as-slice.ensures.value ∙ c.in-ok-sizes.ensures ∙ ap (only keep) c.sizes.ensures.value in
-    record { sized = subst (All (λ z. 0 < z)) (sym is) (kept_positive keep m r); few = subst (λ zs. product zs ≤ 1048576) (sym is) (kept_few keep m r) }
+    record { sized = subst (AllByRecursion (λ z. 0 < z)) (sym is) (kept_positive keep m r); few = subst (λ zs. product zs ≤ 1048576) (sym is) (kept_few keep m r) }
 
 pub scaled-requires-2 : goal.scaled-requires-2
 scaled-requires-2 c =
     let m = model_of c.args.task.now in
     let r = c.sizes.ensures.rules in
     let is = c.sizes-2.ensures.value in
-    record { sized = subst (All (λ z. 0 < z)) (sym is) (positive m r); few = subst (λ zs. product zs ≤ 1048576) (sym is) r.few_states }
+    record { sized = subst (AllByRecursion (λ z. 0 < z)) (sym is) (positive m r); few = subst (λ zs. product zs ≤ 1048576) (sym is) r.few_states }
 
 pub invariant-of-result : goal.invariant-of-result
 invariant-of-result c =

@@ -1,6 +1,6 @@
 -- The variables of the free facts are the free variables.
 use Rattle.std.proofs.Common.{◌≡◌, ◌<◌, map, length, sym, ap, ◌∙◌, arith}
-use Rattle.std.specs.List.{AllByRecursion as All}
+use Rattle.std.specs.List.{AllByRecursion}
 use Rattle.projections.specs.Origins.{offset, unasked}
 use Rattle.projections.specs.View.{places_of, view_of}
 use Rattle.projections.proofs.Edges.{within as inside}
@@ -20,7 +20,7 @@ offset-of-requires c =
     let within : c.args.operator < length p.moves.items = omega (arith, c.if-operator-len.false, c.len.ensures, p.moves.ok) in
     record {
       laid = (places_of p, held_laid p _ _ _ c.as-slice.ensures.value c.as-slice-2.ensures.value (λ i. places_of p));
-      inside = across (λ zs fs. All (λ f. f.variable < length zs) fs) c.as-slice.ensures.value c.as-slice-3.ensures.value (inside _ _ (free_values p c.args.operator x within c.index.ensures));
+      inside = across (λ zs fs. AllByRecursion (λ f. f.variable < length zs) fs) c.as-slice.ensures.value c.as-slice-3.ensures.value (inside _ _ (free_values p c.args.operator x within c.index.ensures));
       few = omega (arith, ap length c.as-slice-3.ensures.value, free_few p c.args.operator x within c.index.ensures);
     }
 

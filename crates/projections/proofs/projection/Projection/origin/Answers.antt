@@ -1,6 +1,6 @@
 -- The effects lead back to the rank where it is written with what is asked for, or no edge leads there; the free variables are written to 0.
 use Rattle.std.proofs.Common.{sym, ap, ◌∙◌, arith}
-use Rattle.std.specs.List.{AllByRecursion as All}
+use Rattle.std.specs.List.{AllByRecursion}
 use Rattle.std.proofs.lemmas.Bool.{false≢true}
 use Rattle.sas.specs.Model.{Valued, product}
 use Rattle.sas.specs.Ranks as Ranks
@@ -28,7 +28,7 @@ written-asked-requires c =
     let there = remains_there p o (c.remains.ensures.0 c.if-not-remains.false) in
     record {
       laid = (places_of p, held_laid p _ _ _ c.as-slice-sizes.ensures.value c.as-slice-coefficients.ensures.value (λ i. places_of p));
-      valued = across (λ zs fs. All (λ f. Valued zs f.variable f.value) fs) c.as-slice-sizes.ensures.value c.as-slice.ensures.value (asked_values p o c.index-one.result.now there c.index-one.ensures);
+      valued = across (λ zs fs. AllByRecursion (λ f. Valued zs f.variable f.value) fs) c.as-slice-sizes.ensures.value c.as-slice.ensures.value (asked_values p o c.index-one.result.now there c.index-one.ensures);
       below = omega (arith, c.if-rank-states.false, c.states.ensures.count, ap product c.as-slice-sizes.ensures.value);
     }
 
@@ -39,7 +39,7 @@ written-requires c =
     let there = remains_there p o (c.remains.ensures.0 c.if-not-remains.false) in
     record {
       laid = (places_of p, held_laid p _ _ _ c.as-slice-sizes.ensures.value c.as-slice-coefficients.ensures.value (λ i. places_of p));
-      valued = across (λ zs fs. All (λ f. Valued zs f.variable f.value) fs) c.as-slice-sizes.ensures.value c.as-slice-2.ensures.value (effect_values p o c.index-one.result.now there c.index-one.ensures);
+      valued = across (λ zs fs. AllByRecursion (λ f. Valued zs f.variable f.value) fs) c.as-slice-sizes.ensures.value c.as-slice-2.ensures.value (effect_values p o c.index-one.result.now there c.index-one.ensures);
       below = c.written-asked.ensures.low;
     }
 
@@ -50,7 +50,7 @@ written-requires-2 c =
     let there = remains_there p o (c.remains.ensures.0 c.if-not-remains.false) in
     record {
       laid = (places_of p, held_laid p _ _ _ c.as-slice-sizes.ensures.value c.as-slice-coefficients.ensures.value (λ i. places_of p));
-      valued = across (λ zs fs. All (λ f. Valued zs f.variable f.value) fs) c.as-slice-sizes.ensures.value c.as-slice-3.ensures.value (free_values p o c.index-one.result.now there c.index-one.ensures);
+      valued = across (λ zs fs. AllByRecursion (λ f. Valued zs f.variable f.value) fs) c.as-slice-sizes.ensures.value c.as-slice-3.ensures.value (free_values p o c.index-one.result.now there c.index-one.ensures);
       below = c.written-asked.ensures.low;
     }
 

@@ -1,6 +1,6 @@
 -- The product of the sizes is the number of states, which is bounded.
 use Rattle.std.proofs.Common.{◌≤◌, sym, ap, ◌∙◌, subst, arith}
-use Rattle.std.specs.List.{AllByRecursion as All}
+use Rattle.std.specs.List.{AllByRecursion}
 use Rattle.sas.specs.Model.{product}
 use Rattle.sas.specs.Ranks as Ranks
 use Rattle.projections.proofs.Held.{held_shaped}
@@ -10,7 +10,7 @@ pub product-of-requires : goal.product-of-requires
 product-of-requires c =
     let h = held_shaped c.args.self.now in
     let is = c.as-slice.ensures.value in
-    record { sized = subst (All (λ z. (2 ≤ z) × (z ≤ 16))) (sym is) h.sized; few = omega (arith, h.few_states, ap product is) }
+    record { sized = subst (AllByRecursion (λ z. (2 ≤ z) × (z ≤ 16))) (sym is) h.sized; few = omega (arith, h.few_states, ap product is) }
 
 pub returns : goal.returns
 unfolding Ranks.states

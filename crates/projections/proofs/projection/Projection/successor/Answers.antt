@@ -1,6 +1,6 @@
 -- The digits that are asked for decide, and the effects' digits are written.
 use Rattle.std.proofs.Common.{◌≡◌, ◌<◌, length, Decides, sym, ap, ◌∙◌, arith}
-use Rattle.std.specs.List.{AllByRecursion as All}
+use Rattle.std.specs.List.{AllByRecursion}
 use Rattle.std.proofs.lemmas.Bool.{false≢true}
 use Rattle.sas.specs.Model.{Valued, product}
 use Rattle.sas.specs.Ranks as Ranks
@@ -29,7 +29,7 @@ all-stand-requires c =
     let there = remains_there p o (c.remains.ensures.0 c.if-not-remains.false) in
     record {
       laid = (places_of p, held_laid p _ _ _ c.as-slice-sizes.ensures.value c.as-slice-coefficients.ensures.value (λ i. places_of p));
-      inside = across (λ zs fs. All (λ f. f.variable < length zs) fs) c.as-slice-sizes.ensures.value c.as-slice.ensures.value (within _ _ (asked_values p o x there c.index-one.ensures));
+      inside = across (λ zs fs. AllByRecursion (λ f. f.variable < length zs) fs) c.as-slice-sizes.ensures.value c.as-slice.ensures.value (within _ _ (asked_values p o x there c.index-one.ensures));
     }
 
 pub returns-then-not-all-stand : goal.returns-then-not-all-stand
@@ -38,7 +38,7 @@ returns-then-not-all-stand c =
     let x = c.index-one.result.now in
     let o = c.args.operator in
     let there = remains_there p o (c.remains.ensures.0 c.if-not-remains.false) in
-    let d = across (λ zs fs. Decides c.all-stand.result (All (λ f. digit zs f.variable c.args.rank ≡ f.value) fs)) (sym c.as-slice-sizes.ensures.value) (sym c.as-slice.ensures.value) c.all-stand.ensures in
+    let d = across (λ zs fs. Decides c.all-stand.result (AllByRecursion (λ f. digit zs f.variable c.args.rank ≡ f.value) fs)) (sym c.as-slice-sizes.ensures.value) (sym c.as-slice.ensures.value) c.all-stand.ensures in
     no_edge (view_of p) (held_shaped p) o x.asked.items x.effects.items (read_is p o x there c.index-one.ensures) (read_number p o x there c.index-one.ensures) c.args.rank (omega (arith, c.if-rank-states.false, c.states.ensures.count)) (λ h. false≢true (sym c.if-not-all-stand.true ∙ d.1 h))
 
 pub written-requires : goal.written-requires
@@ -50,7 +50,7 @@ written-requires c =
     let there = remains_there p o (c.remains.ensures.0 c.if-not-remains.false) in
     record {
       laid = (places_of p, held_laid p _ _ _ c.as-slice-sizes.ensures.value c.as-slice-coefficients.ensures.value (λ i. places_of p));
-      valued = across (λ zs fs. All (λ f. Valued zs f.variable f.value) fs) c.as-slice-sizes.ensures.value c.as-slice-2.ensures.value (effect_values p o x there c.index-one.ensures);
+      valued = across (λ zs fs. AllByRecursion (λ f. Valued zs f.variable f.value) fs) c.as-slice-sizes.ensures.value c.as-slice-2.ensures.value (effect_values p o x there c.index-one.ensures);
       below = omega (arith, c.if-rank-states.false, c.states.ensures.count, ap product c.as-slice-sizes.ensures.value);
     }
 
@@ -61,7 +61,7 @@ returns c =
     let o = c.args.operator in
     let k = c.args.rank in
     let there = remains_there p o (c.remains.ensures.0 c.if-not-remains.false) in
-    let d = across (λ zs fs. Decides c.all-stand.result (All (λ f. digit zs f.variable k ≡ f.value) fs)) (sym c.as-slice-sizes.ensures.value) (sym c.as-slice.ensures.value) c.all-stand.ensures in
+    let d = across (λ zs fs. Decides c.all-stand.result (AllByRecursion (λ f. digit zs f.variable k ≡ f.value) fs)) (sym c.as-slice-sizes.ensures.value) (sym c.as-slice.ensures.value) c.all-stand.ensures in
     let made = across (Writes k c.written.result) (sym c.as-slice-sizes.ensures.value) (sym c.as-slice-2.ensures.value) c.written.ensures.value in
     let e = some_edge (view_of p) (held_shaped p) o x.asked.items x.effects.items (read_is p o x there c.index-one.ensures) (read_number p o x there c.index-one.ensures) k c.written.result (omega (arith, c.if-rank-states.false, c.states.ensures.count)) (c.remains.ensures.0 c.if-not-remains.false) (d.0 c.if-not-all-stand.false) made in
     (e, (edge_inside (view_of p) (held_shaped p) o k c.written.result e).1)

@@ -1,6 +1,6 @@
 -- The variables of the free facts are the free variables.
 use Rattle.std.proofs.Common.{◌≡◌, ◌<◌, ◌≤◌, map, length, sym, ap, ◌∙◌, subst, arith}
-use Rattle.std.specs.List.{AllByRecursion as All}
+use Rattle.std.specs.List.{AllByRecursion}
 use Rattle.projections.specs.Origins.{unasked, ways}
 use Rattle.projections.specs.View.{view_of}
 use Rattle.projections.proofs.Edges.{within as inside}
@@ -19,8 +19,8 @@ ways-of-requires c =
     let x = c.index.result.now in
     let within : c.args.operator < length p.moves.items = omega (arith, c.if-operator-len.false, c.len.ensures, p.moves.ok) in
     record {
-      sized = subst (All (λ z. (2 ≤ z) × (z ≤ 16))) (sym c.as-slice.ensures.value) (held_shaped p).sized;
-      inside = across (λ zs fs. All (λ f. f.variable < length zs) fs) c.as-slice.ensures.value c.as-slice-2.ensures.value (inside _ _ (free_values p c.args.operator x within c.index.ensures));
+      sized = subst (AllByRecursion (λ z. (2 ≤ z) × (z ≤ 16))) (sym c.as-slice.ensures.value) (held_shaped p).sized;
+      inside = across (λ zs fs. AllByRecursion (λ f. f.variable < length zs) fs) c.as-slice.ensures.value c.as-slice-2.ensures.value (inside _ _ (free_values p c.args.operator x within c.index.ensures));
       few = omega (arith, ap length c.as-slice-2.ensures.value, free_few p c.args.operator x within c.index.ensures);
     }
 

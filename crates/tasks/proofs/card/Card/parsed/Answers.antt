@@ -5,16 +5,16 @@ use Rattle.cards.proofs.Lawful.{reading_lawful}
 use Rattle.tasks.proofs.Meanings.{refused_so, said_so}
 use Rattle.tasks.proofs.card.Card.parsed.Goals as goal
 
-pub returns-in-err-draft : goal.returns-in-err-draft
-returns-in-err-draft c =
-    let p = err_from_is_err_and c.from-residual.result c.from-residual.ensures.1 in
-    rw (p.1, p.2) (record { answer = refused_so said contents c.in-err-draft.field-0.0 c.args.bytes.now c.in-err-draft.ensures; task = tt })
+pub returns-in_err-draft : goal.returns-in_err-draft
+returns-in_err-draft c =
+    let p = err_from_is_err_and c.from_residual.result c.from_residual.ensures.1 in
+    rw (p.1, p.2) (record { answer = refused_so said contents c.in_err-draft.field-0.0 c.args.bytes.now c.in_err-draft.ensures; task = tt })
 
-pub task-of-requires : goal.task-of-requires
-task-of-requires c = reading_lawful c.args.bytes.now (said c.in-ok-draft.draft) c.in-ok-draft.ensures
+pub task_of-requires : goal.task_of-requires
+task_of-requires c = reading_lawful c.args.bytes.now (said c.in_ok-draft.draft) c.in_ok-draft.ensures
 
 pub returns : goal.returns
 returns c = record {
-  answer = said_so c.args.bytes.now (said c.in-ok-draft.draft) c.in-ok-draft.ensures;
-  task = c.in-ok-task.ensures;
+  answer = said_so c.args.bytes.now (said c.in_ok-draft.draft) c.in_ok-draft.ensures;
+  task = c.in_ok-task.ensures;
 }

@@ -19,9 +19,9 @@ least_rules = record {
   acting = tt;
 }
 
-pub invariant-of-result : goal.invariant-of-result
+pub invariant_of-result : goal.invariant_of-result
 unfolding least
-invariant-of-result c =
-    let z : vec_items c.in-ok-sizes.sizes ≡ 2 ∷ [] = search rules in
-    let r : Rules (model c.in-ok-sizes.sizes c.new.result c.new-2.result) = rw (z, c.new.ensures.items, c.new-2.ensures.items) least_rules in
-    (∣ r ∣₁, tt)
+invariant_of-result c =
+    let z : vec_items c.in_ok-sizes.sizes ≡ 2 ∷ [] = search rules in
+    let r : Rules (model c.in_ok-sizes.sizes c.new.result c.new-2.result) = rw (z, c.new.ensures.items, c.new-2.ensures.items) least_rules in
+    record { rules = ∣ r ∣₁ }

@@ -11,9 +11,9 @@ loop-o-preserved c =
     let i = c.loop-o.o-index in
     let read = action_read ops i c.o-item.result c.loop-o-test.true c.o-item.is in
     let within : i < length (map action ops) = omega (arith, length-map ops action) in
-    let pushed : vec_items c.push.new.self ≡ vec_items c.loop-o.all ++ c.in-ok-one.one ∷ [] = search rules in
-    let one : action c.in-ok-one.one ≡ action c.o-item.result = search rules in
-    ap (map action) pushed ∙ map_push action (vec_items c.loop-o.all) c.in-ok-one.one ∙ ap (λ a. map action (vec_items c.loop-o.all) ++ a ∷ []) (one ∙ sym read) ∙ ap (λ xs. xs ++ get_or (map action ops) i idle ∷ []) c.loop-o.invariant ∙ sym (take_more (map action ops) i idle within)
+    let pushed : vec_items c.push.new.self ≡ vec_items c.loop-o.all ++ c.in_ok-one.one ∷ [] = search rules in
+    let one : action c.in_ok-one.one ≡ action c.o-item.result = search rules in
+    ap (map action) pushed ∙ map_push action (vec_items c.loop-o.all) c.in_ok-one.one ∙ ap (λ a. map action (vec_items c.loop-o.all) ++ a ∷ []) (one ∙ sym read) ∙ ap (λ xs. xs ++ get_or (map action ops) i idle ∷ []) c.loop-o.invariant ∙ sym (take_more (map action ops) i idle within)
 
 pub returns : goal.returns
 returns c =
