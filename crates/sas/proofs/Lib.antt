@@ -1,3 +1,4 @@
+pub mod Equal
 pub mod Rules
 pub mod Products
 pub mod Horner

@@ -28,7 +28,10 @@ impl PartialEq for Precondition {
 
     ghost laws = { Prim.search (comparing, rules) };
 
-    fn eq(&self, other: &Precondition) -> bool {
+    fn eq(&self, other: &Precondition) -> bool
+        ensures tests { result ≡ eq_of_both (on (λ v. v.variable) nat_eq) (on (λ v. v.value) nat_eq) self.now other.now }
+        ensures decides { Decides result (self.now ≡ other.now) }
+    {
         self.variable == other.variable && self.value == other.value
     }
 }
@@ -38,7 +41,10 @@ impl PartialEq for Fact {
 
     ghost laws = { Prim.search (comparing, rules) };
 
-    fn eq(&self, other: &Fact) -> bool {
+    fn eq(&self, other: &Fact) -> bool
+        ensures tests { result ≡ eq_of_both (on (λ v. v.value) nat_eq) (on (λ v. v.variable) nat_eq) self.now other.now }
+        ensures decides { Decides result (self.now ≡ other.now) }
+    {
         self.value == other.value && self.variable == other.variable
     }
 }

@@ -1,18 +1,17 @@
 -- Lists with the same elements, by tests of equality that are exact.
-use Rattle.std.proofs.Common.{◌≡◌, ℕ, ◌<◌, Bool, true, false, eqb, List, length, get_or, Decides, sym, subst}
+use Rattle.std.proofs.Common.{◌≡◌, ℕ, ◌<◌, Bool, List, length, get_or, Decides, refl, sym, subst}
 use Rattle.std.specs.List.{IsAnyAnswer, ContainsAt}
-use Rattle.std.proofs.lemmas.List.Elements.{contains_decides as has-from-contains}
+use Rattle.std.proofs.lemmas.List.Elements.{contains_decides as contained}
 use Rattle.std.proofs.ByRecursion.{has_get_or}
 use Rattle.states.specs.Sets.{Exact}
-use Rattle.std.proofs.lemmas.Bool.Decides.{Decides-eqb}
 
 -- `contains` decides whether the element is there
-pub contains_decides : {X : Type 0} (answers : X → X → Bool → Type 0) → Exact answers → (xs : List X) (x : X) (b : Bool) → IsAnyAnswer (λ y. answers y x) xs b → Decides b (ContainsAt xs x)
-contains_decides answers exact xs x b h = has-from-contains eqb Decides-eqb xs x b (turned b h)
-  where
-    turned : (t : Bool) → IsAnyAnswer (λ y. answers y x) xs t → IsAnyAnswer (λ y s. Decides s (y ≡ x)) xs t
-    turned true some = (some.0, some.1, λ d. exact (get_or xs some.0 d) x true (some.2 d))
-    turned false none = λ k d low high. exact (get_or xs k d) x false (none k d low high)
+pub contains_decides : {X : Type 0} (eq : X → X → Bool) → Exact (λ x y r. r ≡ eq x y) → (xs : List X) (x : X) (b : Bool) → IsAnyAnswer (λ y t. eq y x ≡ t) xs b → Decides b (ContainsAt xs x)
+contains_decides eq exact xs x b h = contained eq (λ y z. exact y z (eq y z) refl) xs x b h
+
+-- a test that decides equality is exact
+pub exact_from : {X : Type 0} (eq : X → X → Bool) → ((x y : X) → Decides (eq x y) (x ≡ y)) → Exact (λ x y r. r ≡ eq x y)
+exact_from eq decides x y b is = subst (λ t. Decides t (x ≡ y)) (sym is) (decides x y)
 
 -- an element that is read stands in the list
 pub has_read : {X : Type 0} (xs : List X) (i : ℕ) (x : X) → i < length xs → x ≡ get_or xs i x → ContainsAt xs x

@@ -10,7 +10,7 @@ use tasks::{Operator, Task};
 
 // Whether the second has each element of the first.
 fn included<T: PartialEq>(a: &[T], b: &[T]) -> bool
-    ensures { Exact (λ x' y' r'. r' ≡ T.PartialEq.eq x' y') → Decides result ((x : T) → ContainsAt a.now x → ContainsAt b.now x) }
+    ensures { Exact (λ x y r. r ≡ T.eq x y) → Decides result ((x : T) → ContainsAt a.now x → ContainsAt b.now x) }
 {
     for x in a {
         if !b.contains(x) {
@@ -21,7 +21,7 @@ fn included<T: PartialEq>(a: &[T], b: &[T]) -> bool
 }
 
 fn same_set<T: PartialEq>(a: &[T], b: &[T]) -> bool
-    ensures { Exact (λ x' y' r'. r' ≡ T.PartialEq.eq x' y') → Decides result (SameSet a.now b.now) }
+    ensures { Exact (λ x y r. r ≡ T.eq x y) → Decides result (SameSet a.now b.now) }
 {
     included(a, b) && included(b, a)
 }

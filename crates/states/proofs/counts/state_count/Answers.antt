@@ -7,8 +7,8 @@ use Rattle.sas.proofs.Products.{positive, product_more, product_all, product_bel
 use Rattle.tasks.specs.View.{model_of}
 use Rattle.states.proofs.counts.state_count.Goals as goal
 
-pub overflow-mul-count : goal.overflow-mul-count
-overflow-mul-count c =
+pub overflow_mul-count : goal.overflow_mul-count
+overflow_mul-count c =
     let r = c.sizes-sizes.ensures.rules in
     let is = c.sizes-sizes.ensures.value in
     let pos = subst (AllByRecursion (λ z. 0 < z)) (sym is) (positive (model_of c.args.task.now) r) in

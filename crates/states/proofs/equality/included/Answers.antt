@@ -12,7 +12,7 @@ pub returns-then-not-contains : goal.returns-then-not-contains
 returns-then-not-contains g c exact =
     let a = c.args.a.now in
     let x = c.x-item.result in
-    let d = contains_decides g.T.PartialEq.equals exact c.args.b.now x c.contains.result c.contains.ensures.cases in
+    let d = contains_decides g.T.PartialEq.eq exact c.args.b.now x c.contains.result c.contains.ensures.cases in
     (λ e. absurd (false≢true e), λ to. sym c.if-not-contains.true ∙ d.1 (to x (has_read a c.loop-x.x-index x c.loop-x-test.true c.x-item.is)))
 
 pub loop-x-init : goal.loop-x-init
@@ -21,7 +21,7 @@ loop-x-init g c exact = tt
 pub loop-x-preserved : goal.loop-x-preserved
 loop-x-preserved g c exact =
     let x = c.x-item.result in
-    let d = contains_decides g.T.PartialEq.equals exact c.args.b.now x c.contains.result c.contains.ensures.cases in
+    let d = contains_decides g.T.PartialEq.eq exact c.args.b.now x c.contains.result c.contains.ensures.cases in
     each_more (ContainsAt c.args.b.now) c.args.a.now c.loop-x.x-index x c.loop-x-test.true c.x-item.is (c.loop-x.invariant exact) (d.0 c.if-not-contains.false)
 
 pub returns : goal.returns

@@ -7,14 +7,14 @@ use Rattle.sas.proofs.Unranks.{unrank, spread_more, spread_all, unrank_state, ra
 use Rattle.tasks.specs.View.{model_of}
 use Rattle.states.proofs.ranks.unpack.Goals as goal
 
-pub nonzero-rem-values : goal.nonzero-rem-values
-nonzero-rem-values c = omega (arith, sized_at (model_of c.args.task.now) c.sizes-sizes.ensures.rules c.sizes-sizes.result.now c.sizes-sizes.ensures.value c.loop-i.i c.loop-i-test.true)
+pub nonzero_rem-values : goal.nonzero_rem-values
+nonzero_rem-values c = omega (arith, sized_at (model_of c.args.task.now) c.sizes-sizes.ensures.rules c.sizes-sizes.result.now c.sizes-sizes.ensures.value c.loop-i.i c.loop-i-test.true)
 
-pub nonzero-div-rest : goal.nonzero-div-rest
-nonzero-div-rest c = omega (arith, sized_at (model_of c.args.task.now) c.sizes-sizes.ensures.rules c.sizes-sizes.result.now c.sizes-sizes.ensures.value c.loop-i.i c.loop-i-test.true)
+pub nonzero_div-rest : goal.nonzero_div-rest
+nonzero_div-rest c = omega (arith, sized_at (model_of c.args.task.now) c.sizes-sizes.ensures.rules c.sizes-sizes.result.now c.sizes-sizes.ensures.value c.loop-i.i c.loop-i-test.true)
 
-pub overflow-cast-values : goal.overflow-cast-values
-overflow-cast-values c =
+pub overflow_cast-values : goal.overflow_cast-values
+overflow_cast-values c =
     let z = get_or c.sizes-sizes.result.now c.loop-i.i 0 in
     let sized = sized_at (model_of c.args.task.now) c.sizes-sizes.ensures.rules c.sizes-sizes.result.now c.sizes-sizes.ensures.value c.loop-i.i c.loop-i-test.true in
     omega (arith, sized, mod-lt c.loop-i.rest {m = z} (omega (arith, sized)))

@@ -2,15 +2,15 @@
 use Rattle.std.proofs.Common.{◌<◌, length, sym, ap, ◌∙◌, subst, arith}
 use Rattle.std.specs.List.{AllByRecursion}
 use Rattle.std.proofs.lemmas.Bool.{false≢true}
-use Rattle.sas.specs.States.{outcome, operator}
+use Rattle.sas.specs.States.{outcome}
 use Rattle.sas.proofs.Rules.{rules}
 use Rattle.sas.proofs.Steps.{applies_is, step_is, effects_inside}
 use Rattle.tasks.specs.View.{model_of}
 use Rattle.states.proofs.Numbered.{operator_count, operator_read}
 use Rattle.states.proofs.steps.apply.Goals as goal
 
-pub offset-bounds-operators-operator : goal.offset-bounds-operators-operator
-offset-bounds-operators-operator c =
+pub offset_bounds-operators-operator : goal.offset_bounds-operators-operator
+offset_bounds-operators-operator c =
     let t = c.args.task.now in
     let m = model_of t in
     omega (arith, ((applies_is m c.args.operator c.args.values.now).0 (c.applies.ensures.0 c.if-not-applies.false)).0, (rules m t.rules).few_operators)

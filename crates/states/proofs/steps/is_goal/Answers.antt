@@ -8,11 +8,11 @@ use Rattle.sas.proofs.Steps.{goal_is, goal_decides}
 use Rattle.tasks.specs.View.{model_of}
 use Rattle.states.proofs.steps.is_goal.Goals as goal
 
-pub returns-then-not-is-state : goal.returns-then-not-is-state
-returns-then-not-is-state c = (λ e. absurd (false≢true e), λ g. sym c.if-not-is-state.true ∙ c.is-state.ensures.1 ((goal_is (model_of c.args.task.now) c.args.values.now).0 g).0)
+pub returns-then-not-is_state : goal.returns-then-not-is_state
+returns-then-not-is_state c = (λ e. absurd (false≢true e), λ g. sym c.if-not-is_state.true ∙ c.is_state.ensures.1 ((goal_is (model_of c.args.task.now) c.args.values.now).0 g).0)
 
 pub returns : goal.returns
 returns c =
     let t = c.args.task.now in
     let s = c.args.values.now in
-    goal_decides (model_of t) (rules (model_of t) t.rules) s c.all-met.result (c.is-state.ensures.0 c.if-not-is-state.false) (subst (λ fs. Decides c.all-met.result (AllByRecursion (λ f. (f.variable < length s) × Stands f s) fs)) c.goal.ensures c.all-met.ensures)
+    goal_decides (model_of t) (rules (model_of t) t.rules) s c.all_met.result (c.is_state.ensures.0 c.if-not-is_state.false) (subst (λ fs. Decides c.all_met.result (AllByRecursion (λ f. (f.variable < length s) × Stands f s) fs)) c.goal.ensures c.all_met.ensures)

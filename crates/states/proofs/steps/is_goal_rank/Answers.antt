@@ -5,8 +5,8 @@ use Rattle.sas.proofs.Moves.{goal_rank_inside, goal_rank_decides}
 use Rattle.tasks.specs.View.{model_of}
 use Rattle.states.proofs.steps.is_goal_rank.Goals as goal
 
-pub returns-then-rank-state-count : goal.returns-then-rank-state-count
-returns-then-rank-state-count c = (λ e. absurd (false≢true e), λ q. absurd (omega (arith, goal_rank_inside (model_of c.args.task.now) c.args.rank q, c.state-count.ensures.count, c.if-rank-state-count.true)))
+pub returns-then-rank-state_count : goal.returns-then-rank-state_count
+returns-then-rank-state_count c = (λ e. absurd (false≢true e), λ q. absurd (omega (arith, goal_rank_inside (model_of c.args.task.now) c.args.rank q, c.state_count.ensures.count, c.if-rank-state_count.true)))
 
 pub returns : goal.returns
-returns c = goal_rank_decides (model_of c.args.task.now) c.args.rank c.unpack.new.values c.is-goal.result c.unpack.ensures.state c.unpack.ensures.value c.is-goal.ensures
+returns c = goal_rank_decides (model_of c.args.task.now) c.args.rank c.unpack.new.values c.is_goal.result c.unpack.ensures.state c.unpack.ensures.value c.is_goal.ensures

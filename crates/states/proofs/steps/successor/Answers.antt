@@ -7,10 +7,10 @@ use Rattle.tasks.specs.View.{model_of}
 use Rattle.states.proofs.Moved.{moved}
 use Rattle.states.proofs.steps.successor.Goals as goal
 
-pub returns-then-rank-state-count : goal.returns-then-rank-state-count
-returns-then-rank-state-count c l d =
+pub returns-then-rank-state_count : goal.returns-then-rank-state_count
+returns-then-rank-state_count c l d =
     let t = c.args.task.now in
-    omega (arith, (step_rank_inside (model_of t) (rules (model_of t) t.rules) c.args.operator c.args.rank l d).0, c.state-count.ensures.count, c.if-rank-state-count.true)
+    omega (arith, (step_rank_inside (model_of t) (rules (model_of t) t.rules) c.args.operator c.args.rank l d).0, c.state_count.ensures.count, c.if-rank-state_count.true)
 
 pub returns-then-not-apply : goal.returns-then-not-apply
 returns-then-not-apply c =
