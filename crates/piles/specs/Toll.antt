@@ -1,5 +1,5 @@
 -- The toll estimator: blind but for one share that every operator has; and that it is lawful.
-use Rattle.std.specs.Prelude.{◌≡◌, ℕ, ◌≤◌, min, cond, length, nat_lt}
+use Rattle.std.specs.Prelude.{ℕ, ◌≤◌, min, cond, length, nat_lt}
 use Rattle.std.proofs.Common.{arith}
 use Rattle.std.proofs.lemmas.Bool.{cond_both, cond-false, le-ltb}
 use Rattle.sas.specs.Model.{Model}
