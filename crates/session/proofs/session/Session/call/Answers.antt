@@ -17,10 +17,10 @@ returns-in-Begin c =
 pub returns-in-Trial : goal.returns-in-Trial
 returns-in-Trial c =
     let b = bench c.args.self.now in
-    let d = bench c.try-row.new.self in
-    let tells = unless_leads (untried c.in-Trial.operator c.in-Trial.cost b) b d c.try-row.result c.try-row.ensures.answer c.try-row.ensures.same in
-    let lead = subst (λ k. Leads k b (leads c.try-row.result d)) (sym c.in-Trial.is) tells in
-    record { answer = lead; after = after_call _ b d _ lead (λ e. c.try-row.ensures.same) }
+    let d = bench c.try_row.new.self in
+    let tells = unless_leads (untried c.in-Trial.operator c.in-Trial.cost b) b d c.try_row.result c.try_row.ensures.answer c.try_row.ensures.same in
+    let lead = subst (λ k. Leads k b (leads c.try_row.result d)) (sym c.in-Trial.is) tells in
+    record { answer = lead; after = after_call _ b d _ lead (λ e. c.try_row.ensures.same) }
 
 pub returns-in-Wear : goal.returns-in-Wear
 returns-in-Wear c =

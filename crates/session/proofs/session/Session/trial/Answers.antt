@@ -5,8 +5,8 @@ use Rattle.session.specs.Bench.{bench, with_rows}
 use Rattle.session.proofs.Back.{here, back}
 use Rattle.session.proofs.session.Session.trial.Goals as goal
 
-pub overflow-cast-row : goal.overflow-cast-row
-overflow-cast-row c = let none = c.in-default.ensures in grind (arith, nat_tests)
+pub overflow_cast-row : goal.overflow_cast-row
+overflow_cast-row c = let none = c.in_default.ensures in grind (arith, nat_tests)
 
 pub returns-in-Some : goal.returns-in-Some
 returns-in-Some c =
@@ -17,6 +17,6 @@ returns c =
     record {
       lent = refl;
       back = back (bench c.args.self.now) _ _ _ _ c.put.ensures c.at-old.ensures;
-      refusal = c.in-default.ensures;
+      refusal = c.in_default.ensures;
       during = ap (with_rows (bench c.args.self.now)) c.put.ensures;
     }
