@@ -10,10 +10,30 @@ use Rattle.heap.proofs.Heaps.{before_total, before_trans, root}
 use Rattle.lists.proofs.Nones.{some_within}
 
 abbrev pub Fields : {K : Type 0} → List (Option K) → List ℕ → List ℕ → ℕ → Type 0
-Fields keys order spots count = (length spots ≡ length order) × (Smalls order × (Finds spots order × (Within order spots × (Backs order spots × ((length keys ≡ length order) × ((count ≤ length order) × (Held keys order count × (Free keys order count × Unit {0}))))))))
+Fields keys order spots count = record {
+  same : length spots ≡ length order;
+  small : Smalls order;
+  there : Finds spots order;
+  within : Within order spots;
+  back : Backs order spots;
+  long : length keys ≡ length order;
+  few : count ≤ length order;
+  held : Held keys order count;
+  free : Free keys order count;
+}
 
 fields : {K : Type 0} (keys : List (Option K)) (order spots : List ℕ) (count : ℕ) → Sound keys order spots count → Fields keys order spots count
-fields keys order spots count s = (s.inverse.same, (s.inverse.small, (s.inverse.there, (s.inverse.within, (s.inverse.back, (s.long, (s.few, (s.held, (s.free, tt)))))))))
+fields keys order spots count s = record {
+  same = s.inverse.same;
+  small = s.inverse.small;
+  there = s.inverse.there;
+  within = s.inverse.within;
+  back = s.inverse.back;
+  long = s.long;
+  few = s.few;
+  held = s.held;
+  free = s.free;
+}
 
 pub fields_at : {K : Type 0} (keys keys' : List (Option K)) (order order' spots spots' : List ℕ) (count : ℕ) → keys' ≡ keys → order' ≡ order → spots' ≡ spots → Sound keys order spots count → Fields keys' order' spots' count
 fields_at keys keys' order order' spots spots' count a b c s =
@@ -32,7 +52,17 @@ sound_of h = record {
 
 -- with no key left, none is in the heap
 pub fields_wiped : {K : Type 0} (h : Heap K) (keys : List (Option K)) → length keys ≡ length (vec_items h.keys) → ((q : ℕ) → get_or keys q None ≡ None) → Fields keys (vec_items h.order) (vec_items h.spots) 0
-fields_wiped h keys len none = (h.same, (h.small, (h.there, (h.within, (h.back, (len ∙ h.long, (omega arith, ((λ k l. absurd (omega arith)), ((λ k a b. ap is_some (none (get_or (vec_items h.order) k 0))), tt)))))))))
+fields_wiped h keys len none = record {
+  same = h.same;
+  small = h.small;
+  there = h.there;
+  within = h.within;
+  back = h.back;
+  long = len ∙ h.long;
+  few = omega arith;
+  held = λ k l. absurd (omega arith);
+  free = λ k a b. ap is_some (none (get_or (vec_items h.order) k 0));
+}
 
 module _ {K : Type 0} (leq : K → K → Bool) where
   pub put_rows : (items row last items' : List (Option K)) (rank : ℕ) (key : K) → row ≡ items → last ≡ set row rank (Some (lower leq (get_or row rank None) key)) → items' ≡ last → rank < length items → (get_or items' rank None ≡ Some (lower leq (get_or items rank None) key)) × ((q : ℕ) → (q ≡ rank → ⊥) → get_or items' q None ≡ get_or items q None)
@@ -102,28 +132,14 @@ counts_more xs ys n e len h k l = elim (dec_lt k n) [
 ]
 
 pub fields_new : {K : Type 0} (keys : List (Option K)) (order spots : List ℕ) (n : ℕ) → length keys ≡ n → length order ≡ n → length spots ≡ n → ((q : ℕ) → get_or keys q None ≡ None) → Counts order n → Counts spots n → Fields keys order spots 0
-fields_new keys order spots n a b c none o p = (
-  omega arith,
-  (
-    (λ i l. let e = o i (omega arith) in omega arith),
-    (
-      (λ i l. ap (λ (r : ℕ). get_or spots r 0) (o i (omega arith)) ∙ p i (omega arith)),
-      (
-        (λ r l. let e = p r (omega arith) in omega arith),
-        (
-          (λ r l. ap (λ (x : ℕ). get_or order x 0) (p r (omega arith)) ∙ o r (omega arith)),
-          (
-            omega arith,
-            (
-              omega arith,
-              (
-                (λ k l. absurd (omega arith)),
-                ((λ k x y. ap is_some (none (get_or order k 0))), tt),
-              ),
-            ),
-          ),
-        ),
-      ),
-    ),
-  ),
-)
+fields_new keys order spots n a b c none o p = record {
+  same = omega arith;
+  small = λ i l. let e = o i (omega arith) in omega arith;
+  there = λ i l. ap (λ (r : ℕ). get_or spots r 0) (o i (omega arith)) ∙ p i (omega arith);
+  within = λ r l. let e = p r (omega arith) in omega arith;
+  back = λ r l. ap (λ (x : ℕ). get_or order x 0) (p r (omega arith)) ∙ o r (omega arith);
+  long = omega arith;
+  few = omega arith;
+  held = λ k l. absurd (omega arith);
+  free = λ k x y. ap is_some (none (get_or order k 0));
+}

@@ -7,22 +7,22 @@ pub returns-in-None : goal.returns-in-None
 returns-in-None g c o =
     let m = g.W.WaitingList in
     let part = c.loop.invariant.2 o in
-    part_end m.places m.waiting m.ordered g.Key.Key.leq c.args.w.now (vec_items c.loop.out) c.loop.w part c.take.new.self (c.in-None.ensures part.still)
+    part_end m.places m.waiting m.ordered g.W.Key.Key.leq c.args.w.now (vec_items c.loop.out) c.loop.w part c.take.new.self (c.in-None.ensures part.still)
 
 pub loop-preserved : goal.loop-preserved
 loop-preserved g c =
     let m = g.W.WaitingList in
-    let pushed = c.push-reserved.ensures in (
+    let pushed = c.push_reserved.ensures in (
       omega arith,
       omega arith,
       (λ o.
           let part = c.loop.invariant.2 o in
-          rw pushed.items (part_more m.places m.waiting m.ordered g.Key.Key.leq c.args.w.now (vec_items c.loop.out) c.loop.w c.take.new.self _ _ part (c.in-Some.ensures part.still))),
+          rw pushed.items (part_more m.places m.waiting m.ordered g.W.Key.Key.leq c.args.w.now (vec_items c.loop.out) c.loop.w c.take.new.self _ _ part (c.in-Some.ensures part.still))),
     )
 
 pub returns : goal.returns
 returns g c o =
     let m = g.W.WaitingList in
     let part = c.loop.invariant.2 o in
-    part_full m.places m.waiting m.ordered g.Key.Key.leq c.args.w.now (vec_items c.loop.out) c.loop.w part
+    part_full m.places m.waiting m.ordered g.W.Key.Key.leq c.args.w.now (vec_items c.loop.out) c.loop.w part
     (g.met.W.WaitingList.within c.loop.w) (omega (arith, c.loop.out.ok.0, c.capacity-capacity.ensures))

@@ -8,4 +8,4 @@ invariant-loop g l =
     let m = g.W.WaitingList in
     (vec_len l.out ≡ l.counter)
     × (l.capacity ≤ vec_capacity l.out)
-    × (m.ordered l.initial.w → Part m.places m.waiting m.ordered g.Key.Key.leq l.initial.w (vec_items l.out) l.w)
+    × (m.ordered l.initial.w → Part m.places m.waiting m.ordered g.W.Key.Key.leq l.initial.w (vec_items l.out) l.w)

@@ -4,24 +4,24 @@ use Rattle.heap.specs.Rows.{before}
 use Rattle.heap.proofs.Heaps.{before_total, before_trans, lower_left, lower_right, lower_only}
 use Rattle.heap.proofs.sift.lower.Goals as goal
 
-pub returns-then-at-most : goal.returns-then-at-most
-returns-then-at-most g c =
+pub returns-then-at_most : goal.returns-then-at_most
+returns-then-at_most g c =
     let keys = c.args.keys.now in
     let m = g.met.K.Key in
     record {
       child = (omega arith, (omega arith, omega arith));
-      least = lower_left (before g.row.K-Key.leq keys) (before_total g.row.K-Key.leq m.total m.trans keys) (before_trans g.row.K-Key.leq m.total m.trans keys)
-          c.args.order.now c.args.count c.args.i (sym c.if-at-most.ensures);
+      least = lower_left (before g.K.Key.leq keys) (before_total g.K.Key.leq m.total m.trans keys) (before_trans g.K.Key.leq m.total m.trans keys)
+          c.args.order.now c.args.count c.args.i (sym c.if-at_most.ensures);
     }
 
-pub returns-else-at-most : goal.returns-else-at-most
-returns-else-at-most g c =
+pub returns-else-at_most : goal.returns-else-at_most
+returns-else-at_most g c =
     let keys = c.args.keys.now in
     let m = g.met.K.Key in
     record {
       child = (omega arith, (omega arith, omega arith));
-      least = lower_right (before g.row.K-Key.leq keys) (before_total g.row.K-Key.leq m.total m.trans keys) (before_trans g.row.K-Key.leq m.total m.trans keys)
-          c.args.order.now c.args.count c.args.i (sym c.if-at-most.ensures);
+      least = lower_right (before g.K.Key.leq keys) (before_total g.K.Key.leq m.total m.trans keys) (before_trans g.K.Key.leq m.total m.trans keys)
+          c.args.order.now c.args.count c.args.i (sym c.if-at_most.ensures);
     }
 
 pub returns-else-right-count : goal.returns-else-right-count
@@ -30,6 +30,6 @@ returns-else-right-count g c =
     let m = g.met.K.Key in
     record {
       child = (omega arith, (omega arith, omega arith));
-      least = lower_only (before g.row.K-Key.leq keys) (before_total g.row.K-Key.leq m.total m.trans keys) (before_trans g.row.K-Key.leq m.total m.trans keys)
+      least = lower_only (before g.K.Key.leq keys) (before_total g.K.Key.leq m.total m.trans keys) (before_trans g.K.Key.leq m.total m.trans keys)
           c.args.order.now c.args.count c.args.i (omega arith);
     }

@@ -5,7 +5,7 @@ use Rattle.heap.proofs.sift.sift_up.Given as goal
 
 abbrev pub invariant-loop-i : goal.invariant-loop-i
 invariant-loop-i g l =
-    let le = before g.row.K-Key.leq l.keys in
+    let le = before g.K.Key.leq l.keys in
     Inverse l.order l.spots
     × (length l.order ≡ length l.initial.order)
     × (l.i < l.count)

@@ -11,12 +11,12 @@ returns-then-keeps g c =
     let read = get_or_read keys c.args.rank c.index-keys-rank.result (omega (arith, c.requires.sound.long)) c.index-keys-rank.is None in
     record {
       sound = c.requires.sound;
-      keys = keeps_old g.row.K-Key.leq keys c.args.rank c.args.key c.in-Some.old (sym read ∙ c.in-Some.is) (sym c.if-keeps.ensures);
+      keys = keeps_old g.K.Key.leq keys c.args.rank c.args.key c.in-Some.old (sym read ∙ c.in-Some.is) (sym c.if-keeps.ensures);
       heaped = λ h. h;
     }
 
-pub sift-up-requires : goal.sift-up-requires
-sift-up-requires g c =
+pub sift_up-requires : goal.sift_up-requires
+sift_up-requires g c =
     let keys = c.args.keys.now in
     let s = c.requires.sound in
     let read = get_or_read keys c.args.rank c.index-keys-rank.result (omega (arith, c.requires.sound.long)) c.index-keys-rank.is None in
@@ -36,8 +36,8 @@ exchange-requires g c =
     let past : c.args.count ≤ get_or c.args.spots.now c.args.rank 0 = behind keys c.args.order.now c.args.spots.now c.args.count s c.args.rank c.requires.rank (sym read ∙ c.in-None.is) in
     record { inverse = s.inverse; i = low; j = omega arith }
 
-pub sift-up-requires-in-None : goal.sift-up-requires-in-None
-sift-up-requires-in-None g c =
+pub sift_up-requires-in-None : goal.sift_up-requires-in-None
+sift_up-requires-in-None g c =
     let keys = c.args.keys.now in
     let order = c.args.order.now in
     let spots = c.args.spots.now in
@@ -53,8 +53,8 @@ sift-up-requires-in-None g c =
       start = omega arith;
     }
 
-pub offset-bounds-keys-rank-in-None : goal.offset-bounds-keys-rank-in-None
-offset-bounds-keys-rank-in-None g c =
+pub offset_bounds-keys-rank-in-None : goal.offset_bounds-keys-rank-in-None
+offset_bounds-keys-rank-in-None g c =
     let h : c.args.rank < length c.args.keys.now = omega (arith, c.requires.sound.long) in
     search rules
 
@@ -67,11 +67,11 @@ returns-else-keeps g c =
     let m = g.met.K.Key in
     let read = get_or_read keys c.args.rank c.index-keys-rank.result (omega (arith, c.requires.sound.long)) c.index-keys-rank.is None in
     let front = in_front keys order spots c.args.count s c.args.rank c.requires.rank c.in-Some.old (sym read ∙ c.in-Some.is) in
-    let u = c.sift-up.ensures in
+    let u = c.sift_up.ensures in
     record {
-      sound = sound_lowered keys order spots c.args.count s c.args.rank c.requires.rank c.args.key c.sift-up.new.order c.sift-up.new.spots u.inverse front u.len u.beyond;
-      keys = takes_new g.row.K-Key.leq keys c.args.rank c.args.key c.in-Some.old (sym read ∙ c.in-Some.is) (sym c.if-keeps.ensures);
-      heaped = λ h. u.heaped (rank_lowered keys order spots c.args.count s c.args.rank c.requires.rank g.row.K-Key.leq m.total m.trans c.args.key c.in-Some.old (sym read ∙ c.in-Some.is) (sym c.if-keeps.ensures) h);
+      sound = sound_lowered keys order spots c.args.count s c.args.rank c.requires.rank c.args.key c.sift_up.new.order c.sift_up.new.spots u.inverse front u.len u.beyond;
+      keys = takes_new g.K.Key.leq keys c.args.rank c.args.key c.in-Some.old (sym read ∙ c.in-Some.is) (sym c.if-keeps.ensures);
+      heaped = λ h. u.heaped (rank_lowered keys order spots c.args.count s c.args.rank c.requires.rank g.K.Key.leq m.total m.trans c.args.key c.in-Some.old (sym read ∙ c.in-Some.is) (sym c.if-keeps.ensures) h);
     }
 
 pub returns-in-None : goal.returns-in-None
@@ -83,12 +83,12 @@ returns-in-None g c =
     let m = g.met.K.Key in
     let read = get_or_read keys c.args.rank c.index-keys-rank.result (omega (arith, c.requires.sound.long)) c.index-keys-rank.is None in
     let past = behind keys order spots c.args.count s c.args.rank c.requires.rank (sym read ∙ c.in-None.is) in
-    let u = c.sift-up-in-None.ensures in
+    let u = c.sift_up-in-None.ensures in
     let e = c.exchange.ensures in
     let low = within keys order spots c.args.count s c.args.rank c.requires.rank in
     let x = exchanged order spots (get_or spots c.args.rank 0) c.args.count s.inverse low (omega arith) c.exchange.new.order c.exchange.new.spots e.order e.spots in
     record {
-      sound = sound_placed keys order spots c.args.count s c.args.rank c.requires.rank c.args.key c.sift-up-in-None.new.order c.sift-up-in-None.new.spots u.inverse past c.exchange.new.order c.exchange.new.spots e.order x.0 u.len u.beyond;
-      keys = takes_first g.row.K-Key.leq keys c.args.rank c.args.key (sym read ∙ c.in-None.is);
-      heaped = λ h. u.heaped (rank_placed keys order spots c.args.count s c.args.rank c.requires.rank g.row.K-Key.leq m.total m.trans c.args.key past c.exchange.new.order e.order h);
+      sound = sound_placed keys order spots c.args.count s c.args.rank c.requires.rank c.args.key c.sift_up-in-None.new.order c.sift_up-in-None.new.spots u.inverse past c.exchange.new.order c.exchange.new.spots e.order x.0 u.len u.beyond;
+      keys = takes_first g.K.Key.leq keys c.args.rank c.args.key (sym read ∙ c.in-None.is);
+      heaped = λ h. u.heaped (rank_placed keys order spots c.args.count s c.args.rank c.requires.rank g.K.Key.leq m.total m.trans c.args.key past c.exchange.new.order e.order h);
     }

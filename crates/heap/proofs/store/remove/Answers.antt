@@ -6,14 +6,14 @@ use Rattle.heap.proofs.Adds.{sound_removed}
 use Rattle.heap.proofs.Stores.{down_removed}
 use Rattle.heap.proofs.store.remove.Goals as goal
 
-pub offset-bounds-keys-rank : goal.offset-bounds-keys-rank
-offset-bounds-keys-rank g c =
+pub offset_bounds-keys-rank : goal.offset_bounds-keys-rank
+offset_bounds-keys-rank g c =
     let s = c.requires.sound in
     let h : get_or c.args.order.now 0 0 < length c.args.keys.now = omega (arith, s.inverse.small 0 (omega (arith, s.few)), s.long) in
     search rules
 
-pub sift-down-requires : goal.sift-down-requires
-sift-down-requires g c =
+pub sift_down-requires : goal.sift_down-requires
+sift_down-requires g c =
     let s = c.requires.sound in
     let keys = c.args.keys.now in
     let order = c.args.order.now in
@@ -35,10 +35,10 @@ returns g c =
     let e = c.exchange.ensures.order in
     let x = exchanged order c.args.spots.now 0 (count - 1) s.inverse (omega (arith, s.few)) (omega (arith, s.few)) c.exchange.new.order c.exchange.new.spots e c.exchange.ensures.spots in
     record {
-      sound = sound_removed keys order c.args.spots.now count s c.requires.some c.exchange.new.order c.exchange.new.spots c.sift-down.new.order c.sift-down.new.spots
-          e x.0 c.sift-down.ensures.inverse c.sift-down.ensures.len c.sift-down.ensures.beyond;
+      sound = sound_removed keys order c.args.spots.now count s c.requires.some c.exchange.new.order c.exchange.new.spots c.sift_down.new.order c.sift_down.new.spots
+          e x.0 c.sift_down.ensures.inverse c.sift_down.ensures.len c.sift_down.ensures.beyond;
       keys = refl;
-      heaped = λ h. c.sift-down.ensures.heaped
-          (subst (λ (o : List ℕ). DownTo (before g.row.K-Key.leq (set keys (get_or order 0 0) None)) o (count - 1) 0) (sym e)
-          (down_removed keys order c.args.spots.now count s g.row.K-Key.leq m.total m.trans c.requires.some h));
+      heaped = λ h. c.sift_down.ensures.heaped
+          (subst (λ (o : List ℕ). DownTo (before g.K.Key.leq (set keys (get_or order 0 0) None)) o (count - 1) 0) (sym e)
+          (down_removed keys order c.args.spots.now count s g.K.Key.leq m.total m.trans c.requires.some h));
     }

@@ -4,4 +4,4 @@ use Rattle.scan.specs.Rows.{LeastTo}
 use Rattle.scan.proofs.Scan.least.Given as goal
 
 abbrev pub invariant-loop-i : goal.invariant-loop-i
-invariant-loop-i g l = LeastTo g.row.K-Key.leq (vec_items l.self.keys) l.i l.best
+invariant-loop-i g l = LeastTo g.K.Key.leq (vec_items l.self.keys) l.i l.best

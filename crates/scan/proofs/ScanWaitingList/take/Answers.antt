@@ -15,7 +15,7 @@ returns-in-Some g c _ =
       only = search rules;
     })
 
-pub returns-in-default : goal.returns-in-default
-returns-in-default g c _ =
-    let none = none_all _ (length (vec_items c.args.self.now.keys)) (omega arith) c.in-default.ensures in
-    rw c.in-default.is (record { before = none; after = record { sized = refl; none = none; still = tt } })
+pub returns-in_default : goal.returns-in_default
+returns-in_default g c _ =
+    let none = none_all _ (length (vec_items c.args.self.now.keys)) (omega arith) c.in_default.ensures in
+    rw c.in_default.is (record { before = none; after = record { sized = refl; none = none; still = tt } })

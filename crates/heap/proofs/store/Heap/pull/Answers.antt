@@ -17,8 +17,8 @@ unwrap-key-requires g c =
     let first = first_rank h c.index-rank.result.now c.requires rank in
     ap is_some (get_or_read h.keys.items c.index-rank.result.now c.index.result.now first.0 c.index.ensures None) ∙ first.1
 
-pub invariant-of-self : goal.invariant-of-self
-invariant-of-self g c =
+pub invariant_of-self : goal.invariant_of-self
+invariant_of-self g c =
     let h = c.args.self.now in
     let a = c.remove in
     fields_at a.new.keys _ a.new.order _ a.new.spots _ (h.count - 1)
@@ -34,17 +34,17 @@ returns g c o =
     let rank = get_or_read h.order.items 0 r (omega (arith, h.few)) c.index-rank.ensures 0 in
     let low : r < length h.keys.items = (first_rank h r c.requires rank).0 in
     let key : get_or h.keys.items r None ≡ Some c.unwrap-key.result = sym (get_or_read h.keys.items r c.index.result.now low c.index.ensures None) ∙ c.unwrap-key.ensures in
-    let rows = take_rows h.keys.items c.deref-mut.result.now a.new.keys _ h.order.items c.deref-mut-2.result.now r
-    c.deref-mut.ensures.value c.deref-mut-2.ensures.value rank a.ensures.keys (with_items_is h.keys a.new.keys (omega arith)) low in
+    let rows = take_rows h.keys.items c.deref_mut.result.now a.new.keys _ h.order.items c.deref_mut-2.result.now r
+    c.deref_mut.ensures.value c.deref_mut-2.ensures.value rank a.ensures.keys (with_items_is h.keys a.new.keys (omega arith)) low in
     record {
       within = omega (arith, h.keys.ok.0);
       here = key;
-      least = least_of g.row.K-Key.leq m.total m.trans h o r c.unwrap-key.result rank key;
+      least = least_of g.K.Key.leq m.total m.trans h o r c.unwrap-key.result rank key;
       gone = rows.0;
       only = record {
         same = rows.1;
         kept = refl;
-        still = heaped_at g.row.K-Key.leq h.keys.items c.deref-mut.result.now a.new.keys _ h.order.items c.deref-mut-2.result.now a.new.order _ h.count (h.count - 1)
-            c.deref-mut.ensures.value c.deref-mut-2.ensures.value (with_items_is h.keys a.new.keys (omega arith)) (with_items_is h.order a.new.order (omega arith)) a.ensures.heaped o;
+        still = heaped_at g.K.Key.leq h.keys.items c.deref_mut.result.now a.new.keys _ h.order.items c.deref_mut-2.result.now a.new.order _ h.count (h.count - 1)
+            c.deref_mut.ensures.value c.deref_mut-2.ensures.value (with_items_is h.keys a.new.keys (omega arith)) (with_items_is h.order a.new.order (omega arith)) a.ensures.heaped o;
       };
     }
