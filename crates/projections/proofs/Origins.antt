@@ -93,11 +93,11 @@ module _ (p : Model) (h : Shaped p) (o : ℕ) (ps es : List Fact) (is : operator
     inside : AllByRecursion (λ v. v < length p.sizes) (frees ps es)
     inside = unasked_all (λ v. v < length p.sizes) (map as_precondition ps) es (All-weaker (λ f. Valued p.sizes f.variable f.value) (λ f. f.variable < length p.sizes) (λ f x. x.0) es (set_valued p h o ps es is number))
 
-    at_zero : AllByRecursion (λ v. get_or zeros v 0 ≡ 0) (frees ps es)
-    at_zero = all_unmap (λ f. get_or zeros f.variable 0 ≡ f.value) at_zero (frees ps es) (outcome_gives (map at_zero (frees ps es)) start (subst Distinct (sym (zero_variables (frees ps es))) distinct) (All-map (λ f. f.variable < length start) at_zero (frees ps es) (All-weaker (λ v. v < length p.sizes) (λ v. v < length start) (λ v l. omega (arith, l, start_state.0)) (frees ps es) inside)))
+    at_zero_lem : AllByRecursion (λ v. get_or zeros v 0 ≡ 0) (frees ps es)
+    at_zero_lem = all_unmap (λ f. get_or zeros f.variable 0 ≡ f.value) at_zero (frees ps es) (outcome_gives (map at_zero (frees ps es)) start (subst Distinct (sym (zero_variables (frees ps es))) distinct) (All-map (λ f. f.variable < length start) at_zero (frees ps es) (All-weaker (λ v. v < length p.sizes) (λ v. v < length start) (λ v l. omega (arith, l, start_state.0)) (frees ps es) inside)))
 
     fill_rank : (n : ℕ) → rank p.sizes (fill p.sizes (frees ps es) n zeros) ≡ b + offset p.sizes (frees ps es) n
-    fill_rank n = rank_fill p.sizes (frees ps es) n zeros distinct inside zeros_state.0 at_zero ∙ ap (λ r. r + offset p.sizes (frees ps es) n) zeros_rank
+    fill_rank n = rank_fill p.sizes (frees ps es) n zeros distinct inside zeros_state.0 at_zero_lem ∙ ap (λ r. r + offset p.sizes (frees ps es) n) zeros_rank
 
     test : outcome es start ≡ target
     test = rank_apart p.sizes (outcome es start) target (outcome_state p.sizes es start (set_valued p h o ps es is number) start_state) target_state (sym back_rank ∙ same ∙ sym (rank_onto p h t low))

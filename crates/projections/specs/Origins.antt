@@ -1,6 +1,6 @@
 -- The way back over an operator: the ranks from which it leads to a given one.
 use Rattle.std.specs.Prelude.{◌≡◌, ℕ, ◌+◌, ◌*◌, ◌/◌, ◌%◌, ◌<◌, Bool, false, cond, ◌||◌, List, [], ◌∷◌, ◌==◌, slice_index}
-use Rattle.sas.specs.Model.{Action, Model}
+use Rattle.sas.specs.Model.{Model}
 use Rattle.sas.specs.Ranks.{coefficient}
 use Rattle.sas.specs.States.{operator}
 use Rattle.sas.specs.declared.Fact.{Fact}

@@ -5,7 +5,6 @@ use Rattle.std.specs.List.{AllByRecursion}
 use Rattle.sas.specs.Model.{Action, Model, product}
 use Rattle.sas.specs.Ranks.{sum, coefficient}
 use Rattle.sas.specs.declared.Fact.{Fact}
-use Rattle.sas.specs.declared.Precondition.{Precondition}
 use Rattle.projections.specs.Asked.{as_precondition}
 use Rattle.projections.specs.declared.moves.Move.{Move}
 

@@ -1,19 +1,19 @@
 -- Runs from rank to rank are runs from state to state.
-use Rattle.std.proofs.Common.{◌≡◌, ℕ, ◌+◌, ◌<◌, ◌≤◌, ◌⊎◌, List, [], ◌∷◌, sym, refl, ap, ◌∙◌, subst, inl, inr, ⊎_elim, arith}
+use Rattle.std.proofs.Common.{◌≡◌, ℕ, ◌+◌, ◌<◌, List, [], ◌∷◌, sym, refl, ap, ◌∙◌, inl, inr, ⊎_elim}
 use Rattle.bestfirst.specs.Problem.{total}
 use Rattle.bestfirst.specs.Problem as Graph
 use Rattle.bestfirst.specs.Table.{Ahead}
-use Rattle.projections.specs.Projection.{Edge, Remains}
+use Rattle.projections.specs.Projection.{Remains}
 use Rattle.projections.specs.Shapes.{Shaped}
 use Rattle.projections.proofs.Edges.{step_into}
 use Rattle.sas.specs.Model.{Model}
 use Rattle.sas.specs.Ranks.{rank, states, GoalRank}
 use Rattle.sas.specs.Runs.{Run, stay, step, cost}
-use Rattle.sas.specs.States.{State, Goal}
+use Rattle.sas.specs.States.{State}
 use Rattle.sas.proofs.Moves.{step_rank, step_from, goal_rank, goal_of_rank}
 use Rattle.sas.proofs.Unranks.{rank_below}
 use Rattle.tables.specs.Backwards.{forward}
-use Rattle.tables.specs.Costs.{Reaches, Tells, mark}
+use Rattle.tables.specs.Costs.{Reaches, Tells}
 use Rattle.tables.specs.Entries.{entry}
 use Rattle.tables.proofs.Runs.{TellsRank}
 

@@ -6,9 +6,9 @@ use Rattle.bestfirst.specs.Problem.{above}
 use Rattle.bestfirst.specs.Search.{blank, waiting, opened, offered}
 use Rattle.keys.specs.Orders.{by_number}
 use Rattle.keys.specs.declared.Distance.{Distance}
-use Rattle.lists.specs.Waits.{lower, Added, Put, Refused}
+use Rattle.lists.specs.Waits.{lower, Added, Put}
 use Rattle.lists.specs.declared.PutRefusal.{PutRefusal}
-use Rattle.tables.specs.Backwards.{slot, entry_at, progress, Unset, Offered}
+use Rattle.tables.specs.Backwards.{slot, entry_at, Unset, Offered}
 use Rattle.tables.specs.Costs.{mark}
 use Rattle.tables.specs.Entries.{entry}
 

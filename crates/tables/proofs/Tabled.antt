@@ -1,10 +1,9 @@
 -- A table that is made from what was tested is the table of its entries.
-use Rattle.std.proofs.Common.{◌≡◌, ℕ, ◌<◌, ltb, List, length, vec_items, sym, refl, ap, ◌∙◌, subst, arith}
+use Rattle.std.proofs.Common.{◌≡◌, ℕ, ltb, List, length, vec_items, sym, ap, ◌∙◌, subst, arith}
 use Rattle.std.proofs.lemmas.Bool.{cond-true, cond-false, le-ltb, lt-ltb}
 use Rattle.estimators.specs.declared.estimator.Height.TheVariants.{Dead}
-use Rattle.projections.specs.Parts.{scales}
 use Rattle.projections.specs.Projection.{among, only, projected}
-use Rattle.sas.specs.Model.{Model, Rules}
+use Rattle.sas.specs.Model.{Model}
 use Rattle.sas.specs.Ranks.{rank, states}
 use Rattle.sas.specs.States.{State, operator}
 use Rattle.sas.proofs.Unranks.{rank_below}
@@ -14,7 +13,6 @@ use Rattle.tables.specs.Entries.{entry, height_at}
 use Rattle.tables.specs.Estimates.{height_in, rank_in, share_in}
 use Rattle.tables.specs.Laws.{rank_in_lem}
 use Rattle.tables.specs.Opened.{Opened}
-use Rattle.tables.specs.Refusals.{Opens}
 use Rattle.tables.specs.Tables.{TableOf, table_heights, table_shares}
 use Rattle.tables.specs.declared.table.Table.{Table}
 

@@ -1,5 +1,5 @@
 -- What a table holds once it is built.
-use Rattle.std.specs.Prelude.{◌≡◌, ℕ, ◌≤◌, List, length, get_or}
+use Rattle.std.specs.Prelude.{◌≡◌, ℕ, ◌≤◌, List, length}
 use Rattle.sas.specs.Model.{Model}
 use Rattle.sas.specs.Ranks.{rank, states}
 use Rattle.sas.specs.States.{State}

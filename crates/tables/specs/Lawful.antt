@@ -1,6 +1,6 @@
 -- A table is a lawful estimator for every task equal to its own.
-use Rattle.std.specs.Prelude.{◌≡◌, ℕ, ◌<◌, ◌≤◌, Bool, true, false, cond, ◌⊎◌, length, vec_items, nat_lt}
-use Rattle.std.proofs.Common.{sym, ap, subst, ◌∙◌, inl, inr, ⊎_elim, arith}
+use Rattle.std.specs.Prelude.{◌≡◌, ℕ, ◌<◌, ◌≤◌, length, vec_items, nat_lt}
+use Rattle.std.proofs.Common.{sym, ap, subst, ◌∙◌, ⊎_elim, arith}
 use Rattle.std.proofs.Math.Logic.{∥∥₁_elim}
 use Rattle.std.proofs.Math.Bridge.{le_prop}
 use Rattle.std.proofs.Math.Nat.{ℕ_set}
@@ -18,9 +18,8 @@ use Rattle.sas.proofs.Moves.{goal_rank_inside, step_rank_inside}
 use Rattle.sas.proofs.Rules.{rules}
 use Rattle.tasks.specs.View.{model_of}
 use Rattle.tables.specs.Entries.{entry, height_at}
-use Rattle.tables.specs.Estimates.{height_in, rank_in, share_in}
+use Rattle.tables.specs.Estimates.{rank_in}
 use Rattle.tables.specs.Laws.{falls_prop, goal_alike, held_prop, opened_goal, opened_idle, opened_light, opened_low, opened_step, step_alike}
-use Rattle.tables.specs.Opened.{Opened}
 use Rattle.tables.specs.Tables.{table_heights, table_shares, table_suits}
 use Rattle.tables.specs.declared.table.Table.{Table}
 

@@ -4,12 +4,12 @@ use Rattle.std.proofs.Common.{sym, ◌∙◌, inl, inr, ⊎_elim, arith}
 use Rattle.std.proofs.Math.Path.{ap, subst}
 use Rattle.std.proofs.Math.Bridge.{le_prop}
 use Rattle.std.proofs.lemmas.List.{get_or_past}
-use Rattle.std.proofs.lemmas.Bool.{cond-true, cond-false, cases_lt, lt-ltb, le-ltb}
+use Rattle.std.proofs.lemmas.Bool.{cond-true, cases_lt, lt-ltb}
 use Rattle.estimators.specs.Heights.{Falls, Held, most}
 use Rattle.estimators.specs.declared.estimator.Height.{Height}
 use Rattle.estimators.specs.declared.estimator.Height.TheVariants.{Dead, At}
 use Rattle.projections.specs.Laws.{ProjectionLaws}
-use Rattle.projections.specs.Projection.{among, only, projected, Remains}
+use Rattle.projections.specs.Projection.{among, only, projected}
 use Rattle.projections.proofs.Folding.{folded_is}
 use Rattle.projections.proofs.Projecting.{projection_laws, sizes_projected}
 use Rattle.sas.specs.Model.{Model}

@@ -5,16 +5,16 @@ use Rattle.sas.proofs.Digits.{coefficient_below, coefficient_all}
 use Rattle.projections.proofs.Scales.{sizes_positive, size_at, scaled_few, remainder_low, place_low}
 use Rattle.projections.proofs.digits.folded_rank.Goals as goal
 
-pub nonzero-rem-sum : goal.nonzero-rem-sum
-nonzero-rem-sum c = omega (arith, size_at c.args.sizes.now c.requires.sized c.loop-i.i c.loop-i-test.true)
+pub nonzero_rem-sum : goal.nonzero_rem-sum
+nonzero_rem-sum c = omega (arith, size_at c.args.sizes.now c.requires.sized c.loop-i.i c.loop-i-test.true)
 
-pub overflow-mul-sum : goal.overflow-mul-sum
-overflow-mul-sum c =
+pub overflow_mul-sum : goal.overflow_mul-sum
+overflow_mul-sum c =
     let k = c.args.rank / get_or c.args.places.now c.loop-i.i 0 in
     omega (arith, scaled_few _ _ _ c.requires c.loop-i.i c.loop-i-test.true (k % get_or c.args.sizes.now c.loop-i.i 0) (remainder_low _ _ _ c.requires c.loop-i.i c.loop-i-test.true k))
 
-pub overflow-add-sum : goal.overflow-add-sum
-overflow-add-sum c =
+pub overflow_add-sum : goal.overflow_add-sum
+overflow_add-sum c =
     let k = c.args.rank / get_or c.args.places.now c.loop-i.i 0 in
     omega (arith, place_low _ _ _ c.requires c.loop-i.i c.loop-i-test.true c.loop-i.sum k c.loop-i.invariant.1, coefficient_below c.args.sizes.now (c.loop-i.i + 1) (sizes_positive c.args.sizes.now c.requires.sized), c.requires.few)
 

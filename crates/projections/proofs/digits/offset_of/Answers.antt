@@ -9,23 +9,23 @@ use Rattle.projections.proofs.digits.offset_of.Goals as goal
 pub bounds-sizes-f : goal.bounds-sizes-f
 bounds-sizes-f c = All-get_or (λ f. f.variable < length c.args.sizes.now) c.args.variables.now c.loop-f.f-index _ c.loop-f-test.true c.requires.inside
 
-pub nonzero-rem-sum : goal.nonzero-rem-sum
-nonzero-rem-sum c = omega (arith, size_at c.args.sizes.now c.requires.laid.1.sized _ (All-get_or (λ f. f.variable < length c.args.sizes.now) c.args.variables.now c.loop-f.f-index (record { variable = 0; value = 0 }) c.loop-f-test.true c.requires.inside))
+pub nonzero_rem-sum : goal.nonzero_rem-sum
+nonzero_rem-sum c = omega (arith, size_at c.args.sizes.now c.requires.laid.1.sized _ (All-get_or (λ f. f.variable < length c.args.sizes.now) c.args.variables.now c.loop-f.f-index (record { variable = 0; value = 0 }) c.loop-f-test.true c.requires.inside))
 
-pub nonzero-div-rest : goal.nonzero-div-rest
-nonzero-div-rest c = omega (arith, size_at c.args.sizes.now c.requires.laid.1.sized _ (All-get_or (λ f. f.variable < length c.args.sizes.now) c.args.variables.now c.loop-f.f-index (record { variable = 0; value = 0 }) c.loop-f-test.true c.requires.inside))
+pub nonzero_div-rest : goal.nonzero_div-rest
+nonzero_div-rest c = omega (arith, size_at c.args.sizes.now c.requires.laid.1.sized _ (All-get_or (λ f. f.variable < length c.args.sizes.now) c.args.variables.now c.loop-f.f-index (record { variable = 0; value = 0 }) c.loop-f-test.true c.requires.inside))
 
 pub bounds-coefficients-f : goal.bounds-coefficients-f
 bounds-coefficients-f c = scale_there _ _ _ c.requires.laid.1 _ (All-get_or (λ f. f.variable < length c.args.sizes.now) c.args.variables.now c.loop-f.f-index (record { variable = 0; value = 0 }) c.loop-f-test.true c.requires.inside)
 
-pub overflow-mul-sum : goal.overflow-mul-sum
-overflow-mul-sum c =
+pub overflow_mul-sum : goal.overflow_mul-sum
+overflow_mul-sum c =
     let h = c.requires.laid.1 in
     let inside = All-get_or (λ f. f.variable < length c.args.sizes.now) c.args.variables.now c.loop-f.f-index (record { variable = 0; value = 0 }) c.loop-f-test.true c.requires.inside in
     omega (arith, scaled_few _ _ _ h _ inside _ (remainder_low _ _ _ h _ inside c.loop-f.rest))
 
-pub overflow-add-sum : goal.overflow-add-sum
-overflow-add-sum c =
+pub overflow_add-sum : goal.overflow_add-sum
+overflow_add-sum c =
     let h = c.requires.laid.1 in
     let inside = All-get_or (λ f. f.variable < length c.args.sizes.now) c.args.variables.now c.loop-f.f-index (record { variable = 0; value = 0 }) c.loop-f-test.true c.requires.inside in
     omega (arith, scaled_few _ _ _ h _ inside _ (remainder_low _ _ _ h _ inside c.loop-f.rest), c.loop-f.invariant.0, c.requires.few)

@@ -9,8 +9,8 @@ use Rattle.projections.proofs.digits.ways_of.Goals as goal
 pub bounds-sizes-f : goal.bounds-sizes-f
 bounds-sizes-f c = All-get_or (λ f. f.variable < length c.args.sizes.now) c.args.variables.now c.loop-f.f-index _ c.loop-f-test.true c.requires.inside
 
-pub overflow-mul-all : goal.overflow-mul-all
-overflow-mul-all c =
+pub overflow_mul-all : goal.overflow_mul-all
+overflow_mul-all c =
     let sizes = c.args.sizes.now in
     let inside = All-get_or (λ f. f.variable < length sizes) c.args.variables.now c.loop-f.f-index (record { variable = 0; value = 0 }) c.loop-f-test.true c.requires.inside in
     omega (arith, power_few sizes c.args.variables.now c.loop-f.f-index c.loop-f.all _ (omega (arith, c.requires.few)) c.loop-f.invariant.0 (size_at sizes c.requires.sized _ inside).1)

@@ -15,31 +15,31 @@ use Rattle.projections.proofs.digits.written.Goals as goal
 valued_at : (sizes : List ℕ) (facts : List Fact) (i : ℕ) → i < length facts → AllByRecursion (λ f. Valued sizes f.variable f.value) facts → Valued sizes (get_or facts i (record { variable = 0; value = 0 })).variable (get_or facts i (record { variable = 0; value = 0 })).value
 valued_at sizes facts i l h = All-get_or (λ f. Valued sizes f.variable f.value) facts i (record { variable = 0; value = 0 }) l h
 
-pub value-of-old-requires : goal.value-of-old-requires
-value-of-old-requires c = record { laid = c.requires.laid; inside = (valued_at c.args.sizes.now c.args.facts.now c.loop-f.f-index c.loop-f-test.true c.requires.valued).0 }
+pub value_of-old-requires : goal.value_of-old-requires
+value_of-old-requires c = record { laid = c.requires.laid; inside = (valued_at c.args.sizes.now c.args.facts.now c.loop-f.f-index c.loop-f-test.true c.requires.valued).0 }
 
 pub bounds-coefficients-place : goal.bounds-coefficients-place
 bounds-coefficients-place c = scale_there _ _ _ c.requires.laid.1 _ (valued_at c.args.sizes.now c.args.facts.now c.loop-f.f-index c.loop-f-test.true c.requires.valued).0
 
-pub overflow-mul-now-at : goal.overflow-mul-now-at
-overflow-mul-now-at c =
+pub overflow_mul-now_at : goal.overflow_mul-now_at
+overflow_mul-now_at c =
     let w = valued_at c.args.sizes.now c.args.facts.now c.loop-f.f-index c.loop-f-test.true c.requires.valued in
-    omega (arith, taken_fits _ _ _ c.requires.laid.1 _ w.0 c.loop-f.now-at _ _ _ c.loop-f.invariant.0 w.1 c.value-of-old.ensures refl, c.loop-f.invariant.0, c.requires.laid.1.few)
+    omega (arith, taken_fits _ _ _ c.requires.laid.1 _ w.0 c.loop-f.now_at _ _ _ c.loop-f.invariant.0 w.1 c.value_of-old.ensures refl, c.loop-f.invariant.0, c.requires.laid.1.few)
 
-pub overflow-sub-now-at : goal.overflow-sub-now-at
-overflow-sub-now-at c =
+pub overflow_sub-now_at : goal.overflow_sub-now_at
+overflow_sub-now_at c =
     let w = valued_at c.args.sizes.now c.args.facts.now c.loop-f.f-index c.loop-f-test.true c.requires.valued in
-    taken_fits _ _ _ c.requires.laid.1 _ w.0 c.loop-f.now-at _ _ _ c.loop-f.invariant.0 w.1 c.value-of-old.ensures refl
+    taken_fits _ _ _ c.requires.laid.1 _ w.0 c.loop-f.now_at _ _ _ c.loop-f.invariant.0 w.1 c.value_of-old.ensures refl
 
-pub overflow-mul-now-at-in-loop-f : goal.overflow-mul-now-at-in-loop-f
-overflow-mul-now-at-in-loop-f c =
+pub overflow_mul-now_at-in-loop-f : goal.overflow_mul-now_at-in-loop-f
+overflow_mul-now_at-in-loop-f c =
     let w = valued_at c.args.sizes.now c.args.facts.now c.loop-f.f-index c.loop-f-test.true c.requires.valued in
     omega (arith, scaled_few _ _ _ c.requires.laid.1 _ w.0 _ w.1)
 
-pub overflow-add-now-at : goal.overflow-add-now-at
-overflow-add-now-at c =
+pub overflow_add-now_at : goal.overflow_add-now_at
+overflow_add-now_at c =
     let w = valued_at c.args.sizes.now c.args.facts.now c.loop-f.f-index c.loop-f-test.true c.requires.valued in
-    omega (arith, changed_low _ _ _ c.requires.laid.1 _ w.0 c.loop-f.now-at _ _ _ c.loop-f.invariant.0 w.1 c.value-of-old.ensures refl, c.requires.laid.1.few)
+    omega (arith, changed_low _ _ _ c.requires.laid.1 _ w.0 c.loop-f.now_at _ _ _ c.loop-f.invariant.0 w.1 c.value_of-old.ensures refl, c.requires.laid.1.few)
 
 pub loop-f-preserved : goal.loop-f-preserved
 loop-f-preserved c =
@@ -47,8 +47,8 @@ loop-f-preserved c =
     let facts = c.args.facts.now in
     let i = c.loop-f.f-index in
     let w = valued_at sizes facts i c.loop-f-test.true c.requires.valued in (
-      changed_low _ _ _ c.requires.laid.1 _ w.0 c.loop-f.now-at _ _ _ c.loop-f.invariant.0 w.1 c.value-of-old.ensures refl,
-      ap (outcome (drop (i + 1) facts)) (changed_state _ _ _ c.requires.laid.1 _ w.0 c.loop-f.now-at _ _ _ c.loop-f.invariant.0 w.1 c.value-of-old.ensures refl) ∙ sym (outcome_more facts (unrank sizes c.loop-f.now-at) i (record { variable = 0; value = 0 }) c.loop-f-test.true) ∙ c.loop-f.invariant.1,
+      changed_low _ _ _ c.requires.laid.1 _ w.0 c.loop-f.now_at _ _ _ c.loop-f.invariant.0 w.1 c.value_of-old.ensures refl,
+      ap (outcome (drop (i + 1) facts)) (changed_state _ _ _ c.requires.laid.1 _ w.0 c.loop-f.now_at _ _ _ c.loop-f.invariant.0 w.1 c.value_of-old.ensures refl) ∙ sym (outcome_more facts (unrank sizes c.loop-f.now_at) i (record { variable = 0; value = 0 }) c.loop-f-test.true) ∙ c.loop-f.invariant.1,
     )
 
 pub loop-f-init : goal.loop-f-init
@@ -60,8 +60,8 @@ returns c =
     let facts = c.args.facts.now in
     let pos = sizes_positive sizes c.requires.laid.1.sized in
     let low = c.loop-f.invariant.0 in
-    let end = sym (outcome_all facts (unrank sizes c.loop-f.now-at) c.loop-f.f-index c.loop-f-test.false) ∙ c.loop-f.invariant.1 in
+    let end = sym (outcome_all facts (unrank sizes c.loop-f.now_at) c.loop-f.f-index c.loop-f-test.false) ∙ c.loop-f.invariant.1 in
     record {
-      value = λ s hs e. sym (rank_of_unrank sizes pos c.loop-f.now-at low) ∙ ap (Ranks.rank sizes) (end ∙ ap (outcome facts) (ap (unrank sizes) (sym e) ∙ unrank_rank sizes s hs));
+      value = λ s hs e. sym (rank_of_unrank sizes pos c.loop-f.now_at low) ∙ ap (Ranks.rank sizes) (end ∙ ap (outcome facts) (ap (unrank sizes) (sym e) ∙ unrank_rank sizes s hs));
       low = low;
     }

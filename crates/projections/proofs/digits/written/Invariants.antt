@@ -6,4 +6,4 @@ use Rattle.sas.proofs.Unranks.{unrank}
 use Rattle.projections.proofs.digits.written.Given as goal
 
 abbrev pub invariant-loop-f : goal.invariant-loop-f
-invariant-loop-f l = (l.now-at < product l.sizes) × (outcome (drop l.f-index l.facts) (unrank l.sizes l.now-at) ≡ outcome l.facts (unrank l.sizes l.rank))
+invariant-loop-f l = (l.now_at < product l.sizes) × (outcome (drop l.f-index l.facts) (unrank l.sizes l.now_at) ≡ outcome l.facts (unrank l.sizes l.rank))

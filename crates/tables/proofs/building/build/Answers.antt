@@ -8,7 +8,7 @@ use Rattle.tables.proofs.building.build.Goals as goal
 
 pub fill-requires : goal.fill-requires
 fill-requires g c =
-    let i = c.is-fit.ensures.0 c.if-not-is-fit.false in
+    let i = c.is_fit.ensures.0 c.if-not-is_fit.false in
     record {
       fit = input_fit (model_of c.args.task.now) c.args.pattern.now _ _ i c.in-Ok.ensures.view c.states-states.ensures.shaped c.states-states.ensures.count (omega (arith, c.if-entries-states.false));
       room = omega (arith, c.if-capacity-states.false, c.capacity.ensures);
@@ -16,7 +16,7 @@ fill-requires g c =
 
 pub returns : goal.returns
 returns g c =
-    let i = c.is-fit.ensures.0 c.if-not-is-fit.false in
+    let i = c.is_fit.ensures.0 c.if-not-is_fit.false in
     let r = built_opens (model_of c.args.task.now) c.args.pattern.now c.args.shares.now (view_of c.in-Ok.p) c.args.entries.now c.fill.new.entries i c.in-Ok.ensures.view c.states-states.ensures.shaped (omega (arith, c.if-entries-states.false, c.states-states.ensures.count)) c.fill.ensures.built in
     record {
       built = r.0;

@@ -6,8 +6,8 @@ use Rattle.tables.proofs.Runs.{few_states, finished}
 use Rattle.tables.proofs.Turns.{turn_below, turn_goes, turn_marks, turn_ready}
 use Rattle.tables.proofs.building.run.Goals as goal
 
-pub offset-bounds-entries-t : goal.offset-bounds-entries-t
-offset-bounds-entries-t g c =
+pub offset_bounds-entries-t : goal.offset_bounds-entries-t
+offset_bounds-entries-t g c =
     let w = g.W.WaitingList in
     let below = turn_below w.places w.waiting w.ordered c.args.graph.now (length c.args.entries.now) c.loop-t.entries c.loop-t.list c.take.new.self c.in-Some.t c.in-Some.d c.requires.fit c.loop-t.auto.entries c.loop-t.invariant.0 (c.in-Some.ensures c.loop-t.invariant.0.ordered) in
     omega (arith, below, c.requires.fit.fixed.size, few_states (task_of c.args.graph.now) c.requires.fit.fixed.shaped)
@@ -23,8 +23,8 @@ loop-t-smaller g c =
     let w = g.W.WaitingList in
     omega (arith, turn_marks w.places w.waiting w.ordered c.args.graph.now (length c.args.entries.now) c.loop-t.entries c.loop-t.list c.take.new.self c.in-Some.t c.in-Some.d c.requires.fit c.loop-t.auto.entries c.loop-t.invariant.0 (c.in-Some.ensures c.loop-t.invariant.0.ordered))
 
-pub look-at-all-requires : goal.look-at-all-requires
-look-at-all-requires g c =
+pub look_at_all-requires : goal.look_at_all-requires
+look_at_all-requires g c =
     let w = g.W.WaitingList in
     turn_ready w.places w.waiting w.ordered c.args.graph.now (length c.args.entries.now) c.loop-t.entries c.loop-t.list c.take.new.self c.in-Some.t c.in-Some.d c.requires.fit c.loop-t.auto.entries c.loop-t.invariant.0 (c.in-Some.ensures c.loop-t.invariant.0.ordered)
 
@@ -33,8 +33,8 @@ loop-t-preserved g c =
     let w = g.W.WaitingList in
     let k = c.in-Some.ensures c.loop-t.invariant.0.ordered in
     let below = turn_below w.places w.waiting w.ordered c.args.graph.now (length c.args.entries.now) c.loop-t.entries c.loop-t.list c.take.new.self c.in-Some.t c.in-Some.d c.requires.fit c.loop-t.auto.entries c.loop-t.invariant.0 (c.in-Some.ensures c.loop-t.invariant.0.ordered) in (
-      turn_goes w.places w.waiting w.ordered c.args.graph.now (length c.args.entries.now) c.loop-t.entries c.loop-t.list c.take.new.self c.in-Some.t c.in-Some.d c.requires.fit c.loop-t.auto.entries c.loop-t.invariant.0 (c.in-Some.ensures c.loop-t.invariant.0.ordered) c.look-at-all.new.list c.look-at-all.ensures,
-      omega (arith, c.look-at-all.ensures.places, k.only.kept, c.loop-t.invariant.1),
+      turn_goes w.places w.waiting w.ordered c.args.graph.now (length c.args.entries.now) c.loop-t.entries c.loop-t.list c.take.new.self c.in-Some.t c.in-Some.d c.requires.fit c.loop-t.auto.entries c.loop-t.invariant.0 (c.in-Some.ensures c.loop-t.invariant.0.ordered) c.look_at_all.new.list c.look_at_all.ensures,
+      omega (arith, c.look_at_all.ensures.places, k.only.kept, c.loop-t.invariant.1),
       λ v h. get_or-set_other c.loop-t.entries c.in-Some.t v c.in-Some.d.0 0 (λ e. omega (arith, h, e, below)) ∙ c.loop-t.invariant.2 v h,
     )
 
@@ -43,7 +43,7 @@ returns g c =
     let w = g.W.WaitingList in
     let graph = c.args.graph.now in
     let F = c.requires.fit.fixed in
-    let e = c.in-default.ensures c.loop-t.invariant.0.ordered in
+    let e = c.in_default.ensures c.loop-t.invariant.0.ordered in
     record {
       emptied = record { sized = omega (arith, e.after.sized, c.loop-t.invariant.1); none = e.after.none; still = e.after.still };
       built =

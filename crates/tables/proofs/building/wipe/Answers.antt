@@ -1,5 +1,5 @@
 -- One entry more holds the mark.
-use Rattle.std.proofs.Common.{◌≡◌, ◌<◌, ◌≢◌, length, ◌∙◌, arith, get_or-set_other, get_or-set_same, below_more}
+use Rattle.std.proofs.Common.{◌∙◌, arith, get_or-set_other, get_or-set_same, below_more}
 use Rattle.tables.proofs.building.wipe.Goals as goal
 
 pub loop-i-preserved : goal.loop-i-preserved

@@ -1,5 +1,5 @@
 -- The tests decide each part of what is asked for.
-use Rattle.std.proofs.Common.{◌≡◌, ◌≤◌, length, get_or, sym, ap, ◌∙◌, arith}
+use Rattle.std.proofs.Common.{length, sym, ap, ◌∙◌, arith}
 use Rattle.std.proofs.lemmas.List.{length-map}
 use Rattle.std.proofs.lemmas.Bool.{false≢true}
 use Rattle.tasks.specs.Parts.{action}
@@ -15,13 +15,13 @@ returns-then-pattern-eq0 c = (
   ],
 )
 
-pub returns-then-all-below : goal.returns-then-all-below
-returns-then-all-below c = (
+pub returns-then-all_below : goal.returns-then-all_below
+returns-then-all_below c = (
   λ e. record {
     some = omega (arith, c.if-pattern-eq0.false);
-    inside = λ i l. omega (arith, c.all-below.ensures.0 c.if-all-below.true i l, ap length c.sizes.ensures.value);
+    inside = λ i l. omega (arith, c.all_below.ensures.0 c.if-all_below.true i l, ap length c.sizes.ensures.value);
     count = c.if-shares-operators.false ∙ sym (length-map c.operators.result.now action) ∙ ap length c.operators.ensures;
-    light = c.all-light.ensures.0 e;
+    light = c.all_light.ensures.0 e;
   },
-  λ i. c.all-light.ensures.1 i.light,
+  λ i. c.all_light.ensures.1 i.light,
 )

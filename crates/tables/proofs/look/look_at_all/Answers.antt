@@ -7,10 +7,10 @@ use Rattle.tables.proofs.look.look_at_all.Goals as goal
 pub loop-operator-preserved : goal.loop-operator-preserved
 loop-operator-preserved g c =
     record {
-      ordered = c.look-at.ensures.ordered;
-      places = c.look-at.ensures.places ∙ c.loop-operator.invariant.places;
-      capped = λ v d e. ⊎_elim (c.loop-operator.invariant.capped v d) inr (c.look-at.ensures.capped v d e);
-      sofar = c.look-at.ensures.sofar;
+      ordered = c.look_at.ensures.ordered;
+      places = c.look_at.ensures.places ∙ c.loop-operator.invariant.places;
+      capped = λ v d e. ⊎_elim (c.loop-operator.invariant.capped v d) inr (c.look_at.ensures.capped v d e);
+      sofar = c.look_at.ensures.sofar;
     }
 
 pub returns : goal.returns

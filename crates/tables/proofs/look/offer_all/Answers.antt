@@ -17,11 +17,11 @@ loop-n-init g c =
       sofar = later_start (task_of graph) (cost_of graph) c.args.entries.now graph.states c.args.t c.args.g c.args.operator c.args.origin c.requires.origin (g.W.WaitingList.waiting c.args.list.now) c.requires.ready.sofar;
     }
 
-pub overflow-add-cost : goal.overflow-add-cost
-overflow-add-cost g c = omega (arith, c.requires.ready.looking.small, c.requires.ready.looking.fixed.light c.args.operator)
+pub overflow_add-cost : goal.overflow_add-cost
+overflow_add-cost g c = omega (arith, c.requires.ready.looking.small, c.requires.ready.looking.fixed.light c.args.operator)
 
-pub overflow-add-from : goal.overflow-add-from
-overflow-add-from g c =
+pub overflow_add-from : goal.overflow_add-from
+overflow_add-from g c =
     let p = task_of c.args.graph.now in
     let within : c.loop-n.n < ways p.sizes (free p c.args.operator) = omega (arith, c.loop-n-test.true, c.ways-n-end.ensures) in
     let edge = c.requires.origin.leads c.loop-n.n within in

@@ -4,15 +4,15 @@ use Rattle.std.proofs.lemmas.Bool.Decides.{not_from_Decides}
 use Rattle.projections.proofs.Edges.{edge_number}
 use Rattle.tables.specs.Weighted.{task_of}
 use Rattle.tables.proofs.obeying.obeys_at.Goals as goal
-use Rattle.tables.proofs.obeying.obeys_at.Goals.{else-is-goal-via-then-is-goal+else-entries-rank-gt0, else-is-goal-via-else-is-goal}
+use Rattle.tables.proofs.obeying.obeys_at.Goals.{else-is_goal-via-then-is_goal+else-entries-rank-gt0, else-is_goal-via-else-is_goal}
 
 pub returns : goal.returns
 returns c = (
   λ _. record {
-    held = c.is-held.ensures.0 c.if-not-is-held.false;
-    goal = λ g. elim c.else-is-goal.branch [
-      | else-is-goal-via-then-is-goal+else-entries-rank-gt0 w ↦ omega (arith, w.if-entries-rank-gt0.false)
-      | else-is-goal-via-else-is-goal w ↦ absurd (not_from_Decides c.is-goal.result c.is-goal.ensures w.if-is-goal.false g)
+    held = c.is_held.ensures.0 c.if-not-is_held.false;
+    goal = λ g. elim c.else-is_goal.branch [
+      | else-is_goal-via-then-is_goal+else-entries-rank-gt0 w ↦ omega (arith, w.if-entries-rank-gt0.false)
+      | else-is_goal-via-else-is_goal w ↦ absurd (not_from_Decides c.is_goal.result c.is_goal.ensures w.if-is_goal.false g)
     ];
     step = λ o l e. c.loop-operator.invariant o (omega (arith, edge_number (task_of c.args.graph.now) o c.args.rank l e, c.loop-operator-test.false, c.requires.fit.count)) l e;
   },

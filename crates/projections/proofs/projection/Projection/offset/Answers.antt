@@ -13,15 +13,15 @@ returns-then-operator-len c =
     let past = past_is p c.args.operator (omega (arith, c.if-operator-len.true, c.len.ensures, p.moves.ok)) in
     sym (ap (λ a. offset (view_of p).sizes (unasked a.preconditions a.effects) c.args.n) past)
 
-pub offset-of-requires : goal.offset-of-requires
-offset-of-requires c =
+pub offset_of-requires : goal.offset_of-requires
+offset_of-requires c =
     let p = c.args.self.now in
     let x = c.index.result.now in
     let within : c.args.operator < length p.moves.items = omega (arith, c.if-operator-len.false, c.len.ensures, p.moves.ok) in
     record {
-      laid = (places_of p, held_laid p _ _ _ c.as-slice.ensures.value c.as-slice-2.ensures.value (λ i. places_of p));
-      inside = across (λ zs fs. AllByRecursion (λ f. f.variable < length zs) fs) c.as-slice.ensures.value c.as-slice-3.ensures.value (inside _ _ (free_values p c.args.operator x within c.index.ensures));
-      few = omega (arith, ap length c.as-slice-3.ensures.value, free_few p c.args.operator x within c.index.ensures);
+      laid = (places_of p, held_laid p _ _ _ c.as_slice.ensures.value c.as_slice-2.ensures.value (λ i. places_of p));
+      inside = across (λ zs fs. AllByRecursion (λ f. f.variable < length zs) fs) c.as_slice.ensures.value c.as_slice-3.ensures.value (inside _ _ (free_values p c.args.operator x within c.index.ensures));
+      few = omega (arith, ap length c.as_slice-3.ensures.value, free_few p c.args.operator x within c.index.ensures);
     }
 
 pub returns : goal.returns
@@ -29,5 +29,5 @@ returns c =
     let p = c.args.self.now in
     let x = c.index.result.now in
     let within : c.args.operator < length p.moves.items = omega (arith, c.if-operator-len.false, c.len.ensures, p.moves.ok) in
-    let frees = ap (map (λ f. f.variable)) c.as-slice-3.ensures.value ∙ read_free p c.args.operator x within c.index.ensures in
-    across (λ zs ws. c.offset-of.result ≡ offset zs ws c.args.n) (sym c.as-slice.ensures.value) (sym frees) c.offset-of.ensures
+    let frees = ap (map (λ f. f.variable)) c.as_slice-3.ensures.value ∙ read_free p c.args.operator x within c.index.ensures in
+    across (λ zs ws. c.offset_of.result ≡ offset zs ws c.args.n) (sym c.as_slice.ensures.value) (sym frees) c.offset_of.ensures

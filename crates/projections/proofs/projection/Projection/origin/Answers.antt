@@ -27,9 +27,9 @@ written-asked-requires c =
     let o = c.args.operator in
     let there = remains_there p o (c.remains.ensures.0 c.if-not-remains.false) in
     record {
-      laid = (places_of p, held_laid p _ _ _ c.as-slice-sizes.ensures.value c.as-slice-coefficients.ensures.value (λ i. places_of p));
-      valued = across (λ zs fs. AllByRecursion (λ f. Valued zs f.variable f.value) fs) c.as-slice-sizes.ensures.value c.as-slice.ensures.value (asked_values p o c.index-one.result.now there c.index-one.ensures);
-      below = omega (arith, c.if-rank-states.false, c.states.ensures.count, ap product c.as-slice-sizes.ensures.value);
+      laid = (places_of p, held_laid p _ _ _ c.as_slice-sizes.ensures.value c.as_slice-coefficients.ensures.value (λ i. places_of p));
+      valued = across (λ zs fs. AllByRecursion (λ f. Valued zs f.variable f.value) fs) c.as_slice-sizes.ensures.value c.as_slice.ensures.value (asked_values p o c.index-one.result.now there c.index-one.ensures);
+      below = omega (arith, c.if-rank-states.false, c.states.ensures.count, ap product c.as_slice-sizes.ensures.value);
     }
 
 pub written-requires : goal.written-requires
@@ -38,8 +38,8 @@ written-requires c =
     let o = c.args.operator in
     let there = remains_there p o (c.remains.ensures.0 c.if-not-remains.false) in
     record {
-      laid = (places_of p, held_laid p _ _ _ c.as-slice-sizes.ensures.value c.as-slice-coefficients.ensures.value (λ i. places_of p));
-      valued = across (λ zs fs. AllByRecursion (λ f. Valued zs f.variable f.value) fs) c.as-slice-sizes.ensures.value c.as-slice-2.ensures.value (effect_values p o c.index-one.result.now there c.index-one.ensures);
+      laid = (places_of p, held_laid p _ _ _ c.as_slice-sizes.ensures.value c.as_slice-coefficients.ensures.value (λ i. places_of p));
+      valued = across (λ zs fs. AllByRecursion (λ f. Valued zs f.variable f.value) fs) c.as_slice-sizes.ensures.value c.as_slice-2.ensures.value (effect_values p o c.index-one.result.now there c.index-one.ensures);
       below = c.written-asked.ensures.low;
     }
 
@@ -49,8 +49,8 @@ written-requires-2 c =
     let o = c.args.operator in
     let there = remains_there p o (c.remains.ensures.0 c.if-not-remains.false) in
     record {
-      laid = (places_of p, held_laid p _ _ _ c.as-slice-sizes.ensures.value c.as-slice-coefficients.ensures.value (λ i. places_of p));
-      valued = across (λ zs fs. AllByRecursion (λ f. Valued zs f.variable f.value) fs) c.as-slice-sizes.ensures.value c.as-slice-3.ensures.value (free_values p o c.index-one.result.now there c.index-one.ensures);
+      laid = (places_of p, held_laid p _ _ _ c.as_slice-sizes.ensures.value c.as_slice-coefficients.ensures.value (λ i. places_of p));
+      valued = across (λ zs fs. AllByRecursion (λ f. Valued zs f.variable f.value) fs) c.as_slice-sizes.ensures.value c.as_slice-3.ensures.value (free_values p o c.index-one.result.now there c.index-one.ensures);
       below = c.written-asked.ensures.low;
     }
 
@@ -60,12 +60,12 @@ returns-then-written-rank c =
     let x = c.index-one.result.now in
     let o = c.args.operator in
     let there = remains_there p o (c.remains.ensures.0 c.if-not-remains.false) in
-    let zs_is = sym c.as-slice-sizes.ensures.value in
+    let zs_is = sym c.as_slice-sizes.ensures.value in
     let a = c.written-asked.result in
     let w = c.written.result in
     no_origin (view_of p) (held_shaped p) o x.asked.items x.effects.items (read_is p o x there c.index-one.ensures) (read_number p o x there c.index-one.ensures) c.args.rank (omega (arith, c.if-rank-states.false, c.states.ensures.count)) a w
-    (across (Writes c.args.rank a) zs_is (sym c.as-slice.ensures.value) c.written-asked.ensures.value)
-    (across (Writes a w) zs_is (sym c.as-slice-2.ensures.value) c.written.ensures.value)
+    (across (Writes c.args.rank a) zs_is (sym c.as_slice.ensures.value) c.written-asked.ensures.value)
+    (across (Writes a w) zs_is (sym c.as_slice-2.ensures.value) c.written.ensures.value)
     c.if-written-rank.true
 
 pub returns : goal.returns
@@ -75,14 +75,14 @@ returns c =
     let o = c.args.operator in
     let remains = c.remains.ensures.0 c.if-not-remains.false in
     let there = remains_there p o remains in
-    let zs_is = sym c.as-slice-sizes.ensures.value in
+    let zs_is = sym c.as_slice-sizes.ensures.value in
     let a = c.written-asked.result in
     let w = c.written.result in
     let b = c.written-2.result in
     some_origin (view_of p) (held_shaped p) o x.asked.items x.effects.items (read_is p o x there c.index-one.ensures) (read_number p o x there c.index-one.ensures) c.args.rank (omega (arith, c.if-rank-states.false, c.states.ensures.count)) a w
-    (across (Writes c.args.rank a) zs_is (sym c.as-slice.ensures.value) c.written-asked.ensures.value)
-    (across (Writes a w) zs_is (sym c.as-slice-2.ensures.value) c.written.ensures.value)
+    (across (Writes c.args.rank a) zs_is (sym c.as_slice.ensures.value) c.written-asked.ensures.value)
+    (across (Writes a w) zs_is (sym c.as_slice-2.ensures.value) c.written.ensures.value)
     b
-    (across (Writes a b) zs_is (sym (c.as-slice-3.ensures.value ∙ x.frees)) c.written-2.ensures.value)
+    (across (Writes a b) zs_is (sym (c.as_slice-3.ensures.value ∙ x.frees)) c.written-2.ensures.value)
     c.if-written-rank.false
     remains

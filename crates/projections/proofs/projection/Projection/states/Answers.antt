@@ -6,15 +6,15 @@ use Rattle.sas.specs.Ranks as Ranks
 use Rattle.projections.proofs.Held.{held_shaped}
 use Rattle.projections.proofs.projection.Projection.states.Goals as goal
 
-pub product-of-requires : goal.product-of-requires
-product-of-requires c =
+pub product_of-requires : goal.product_of-requires
+product_of-requires c =
     let h = held_shaped c.args.self.now in
-    let is = c.as-slice.ensures.value in
+    let is = c.as_slice.ensures.value in
     record { sized = subst (AllByRecursion (λ z. (2 ≤ z) × (z ≤ 16))) (sym is) h.sized; few = omega (arith, h.few_states, ap product is) }
 
 pub returns : goal.returns
 unfolding Ranks.states
 returns c =
     let h = held_shaped c.args.self.now in
-    let value = c.product-of.ensures ∙ ap product c.as-slice.ensures.value in
+    let value = c.product_of.ensures ∙ ap product c.as_slice.ensures.value in
     record { count = value; few = omega (arith, value, h.few_states); shaped = h }

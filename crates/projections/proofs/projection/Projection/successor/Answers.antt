@@ -21,25 +21,25 @@ returns-then-rank-states c l e = elim c.then-rank-states.branch [
 pub index-one-requires : goal.index-one-requires
 index-one-requires c = omega (arith, remains_there c.args.self.now c.args.operator (c.remains.ensures.0 c.if-not-remains.false), c.args.self.now.moves.ok)
 
-pub all-stand-requires : goal.all-stand-requires
-all-stand-requires c =
+pub all_stand-requires : goal.all_stand-requires
+all_stand-requires c =
     let p = c.args.self.now in
     let x = c.index-one.result.now in
     let o = c.args.operator in
     let there = remains_there p o (c.remains.ensures.0 c.if-not-remains.false) in
     record {
-      laid = (places_of p, held_laid p _ _ _ c.as-slice-sizes.ensures.value c.as-slice-coefficients.ensures.value (λ i. places_of p));
-      inside = across (λ zs fs. AllByRecursion (λ f. f.variable < length zs) fs) c.as-slice-sizes.ensures.value c.as-slice.ensures.value (within _ _ (asked_values p o x there c.index-one.ensures));
+      laid = (places_of p, held_laid p _ _ _ c.as_slice-sizes.ensures.value c.as_slice-coefficients.ensures.value (λ i. places_of p));
+      inside = across (λ zs fs. AllByRecursion (λ f. f.variable < length zs) fs) c.as_slice-sizes.ensures.value c.as_slice.ensures.value (within _ _ (asked_values p o x there c.index-one.ensures));
     }
 
-pub returns-then-not-all-stand : goal.returns-then-not-all-stand
-returns-then-not-all-stand c =
+pub returns-then-not-all_stand : goal.returns-then-not-all_stand
+returns-then-not-all_stand c =
     let p = c.args.self.now in
     let x = c.index-one.result.now in
     let o = c.args.operator in
     let there = remains_there p o (c.remains.ensures.0 c.if-not-remains.false) in
-    let d = across (λ zs fs. Decides c.all-stand.result (AllByRecursion (λ f. digit zs f.variable c.args.rank ≡ f.value) fs)) (sym c.as-slice-sizes.ensures.value) (sym c.as-slice.ensures.value) c.all-stand.ensures in
-    no_edge (view_of p) (held_shaped p) o x.asked.items x.effects.items (read_is p o x there c.index-one.ensures) (read_number p o x there c.index-one.ensures) c.args.rank (omega (arith, c.if-rank-states.false, c.states.ensures.count)) (λ h. false≢true (sym c.if-not-all-stand.true ∙ d.1 h))
+    let d = across (λ zs fs. Decides c.all_stand.result (AllByRecursion (λ f. digit zs f.variable c.args.rank ≡ f.value) fs)) (sym c.as_slice-sizes.ensures.value) (sym c.as_slice.ensures.value) c.all_stand.ensures in
+    no_edge (view_of p) (held_shaped p) o x.asked.items x.effects.items (read_is p o x there c.index-one.ensures) (read_number p o x there c.index-one.ensures) c.args.rank (omega (arith, c.if-rank-states.false, c.states.ensures.count)) (λ h. false≢true (sym c.if-not-all_stand.true ∙ d.1 h))
 
 pub written-requires : goal.written-requires
 unfolding Ranks.states
@@ -49,9 +49,9 @@ written-requires c =
     let o = c.args.operator in
     let there = remains_there p o (c.remains.ensures.0 c.if-not-remains.false) in
     record {
-      laid = (places_of p, held_laid p _ _ _ c.as-slice-sizes.ensures.value c.as-slice-coefficients.ensures.value (λ i. places_of p));
-      valued = across (λ zs fs. AllByRecursion (λ f. Valued zs f.variable f.value) fs) c.as-slice-sizes.ensures.value c.as-slice-2.ensures.value (effect_values p o x there c.index-one.ensures);
-      below = omega (arith, c.if-rank-states.false, c.states.ensures.count, ap product c.as-slice-sizes.ensures.value);
+      laid = (places_of p, held_laid p _ _ _ c.as_slice-sizes.ensures.value c.as_slice-coefficients.ensures.value (λ i. places_of p));
+      valued = across (λ zs fs. AllByRecursion (λ f. Valued zs f.variable f.value) fs) c.as_slice-sizes.ensures.value c.as_slice-2.ensures.value (effect_values p o x there c.index-one.ensures);
+      below = omega (arith, c.if-rank-states.false, c.states.ensures.count, ap product c.as_slice-sizes.ensures.value);
     }
 
 pub returns : goal.returns
@@ -61,7 +61,7 @@ returns c =
     let o = c.args.operator in
     let k = c.args.rank in
     let there = remains_there p o (c.remains.ensures.0 c.if-not-remains.false) in
-    let d = across (λ zs fs. Decides c.all-stand.result (AllByRecursion (λ f. digit zs f.variable k ≡ f.value) fs)) (sym c.as-slice-sizes.ensures.value) (sym c.as-slice.ensures.value) c.all-stand.ensures in
-    let made = across (Writes k c.written.result) (sym c.as-slice-sizes.ensures.value) (sym c.as-slice-2.ensures.value) c.written.ensures.value in
-    let e = some_edge (view_of p) (held_shaped p) o x.asked.items x.effects.items (read_is p o x there c.index-one.ensures) (read_number p o x there c.index-one.ensures) k c.written.result (omega (arith, c.if-rank-states.false, c.states.ensures.count)) (c.remains.ensures.0 c.if-not-remains.false) (d.0 c.if-not-all-stand.false) made in
+    let d = across (λ zs fs. Decides c.all_stand.result (AllByRecursion (λ f. digit zs f.variable k ≡ f.value) fs)) (sym c.as_slice-sizes.ensures.value) (sym c.as_slice.ensures.value) c.all_stand.ensures in
+    let made = across (Writes k c.written.result) (sym c.as_slice-sizes.ensures.value) (sym c.as_slice-2.ensures.value) c.written.ensures.value in
+    let e = some_edge (view_of p) (held_shaped p) o x.asked.items x.effects.items (read_is p o x there c.index-one.ensures) (read_number p o x there c.index-one.ensures) k c.written.result (omega (arith, c.if-rank-states.false, c.states.ensures.count)) (c.remains.ensures.0 c.if-not-remains.false) (d.0 c.if-not-all_stand.false) made in
     (e, (edge_inside (view_of p) (held_shaped p) o k c.written.result e).1)

@@ -5,7 +5,7 @@ use Rattle.projections.specs.Asked.{as_precondition, at_zero}
 use Rattle.projections.specs.Origins.{unasked}
 use Rattle.projections.proofs.Making.{add_all, free_more, free_none}
 use Rattle.projections.proofs.projection.makes.free_of.Goals as goal
-use Rattle.projections.proofs.projection.makes.free_of.Goals.{then-not-speaks+in-ok-push, else-not-speaks}
+use Rattle.projections.proofs.projection.makes.free_of.Goals.{then-not-speaks+in_ok-push, else-not-speaks}
 
 pub loop-f-preserved : goal.loop-f-preserved
 loop-f-preserved c =
@@ -16,7 +16,7 @@ loop-f-preserved c =
     let now = vec_items c.if-not-speaks.free in
     let all = map at_zero (unasked ps fs) in
     elim c.if-not-speaks.branch [
-      | then-not-speaks+in-ok-push w ↦ free_more ps fs i _ c.loop-f-test.true was (vec_items w.push.new.self) now all (sym c.speaks.ensures ∙ w.if-not-speaks.true) w.in-ok-push.ensures.items (ap vec_items w.free-is) c.loop-f.invariant
+      | then-not-speaks+in_ok-push w ↦ free_more ps fs i _ c.loop-f-test.true was (vec_items w.push.new.self) now all (sym c.speaks.ensures ∙ w.if-not-speaks.true) w.in_ok-push.ensures.items (ap vec_items w.free-is) c.loop-f.invariant
       | else-not-speaks w ↦ free_none ps fs i _ c.loop-f-test.true was now all (sym c.speaks.ensures ∙ w.if-not-speaks.false) (ap vec_items w.free-is) c.loop-f.invariant
     ]
 
