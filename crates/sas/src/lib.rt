@@ -23,6 +23,13 @@ pub struct Fact {
     pub value: u8,
 }
 
+// What an operator costs at present, and whether it is barred.
+#[derive(Clone, Copy)]
+pub struct Row {
+    pub cost: u16,
+    pub barred: bool,
+}
+
 impl PartialEq for Precondition {
     ghost eq = { eq_of_both (on (λ v. v.variable) nat_eq) (on (λ v. v.value) nat_eq) };
 
