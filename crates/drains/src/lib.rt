@@ -14,11 +14,12 @@ pub fn drain<W: WaitingList>(heap: Global, w: &mut W) -> Result<Vec<(usize, W::K
 {
     let capacity = w.capacity();
     let mut out = Vec::with_capacity(heap, capacity)?;
+    // By turns, since a list that is not in order may never run out.
     for _ in 0..capacity {
-        match w.take() {
-            Some(pair) => out.push_reserved(pair),
-            None => return Ok(out),
-        }
+        let Some(pair) = w.take() else {
+            return Ok(out);
+        };
+        out.push_reserved(pair);
     }
     Ok(out)
 }
