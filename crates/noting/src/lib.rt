@@ -1,7 +1,7 @@
 // A waiting list that notes what is taken.
 #![tactic(auto)]
 
-ghost use Rattle.std.specs.Prelude.{◌≡◌, ◌≤◌, false, [], ◌∷◌, ◌++◌, if◌then◌else◌, Some, vec_len, vec_capacity};
+ghost use Rattle.std.specs.Prelude.{◌≡◌, Some};
 ghost use Rattle.lists.specs.Waits.{Cleared, Put, Took};
 ghost use Rattle.noting.specs.Notes.{Blank, Noted, Follows};
 ghost use Rattle.std.proofs.Common.{rules};

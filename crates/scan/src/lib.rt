@@ -1,7 +1,7 @@
 // A waiting list that looks through all its ranks for the least key.
 #![tactic(auto)]
 
-ghost use Rattle.std.specs.Prelude.{◌≡◌, IfOk};
+ghost use Rattle.std.specs.Prelude.{IfOk};
 ghost use Rattle.lists.specs.Waits.{Fresh};
 ghost use Rattle.scan.specs.Means.{scan_places, scan_waiting, scan_ordered};
 ghost use Rattle.scan.specs.Rows.{Least};
