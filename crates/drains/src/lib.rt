@@ -10,15 +10,16 @@ use std::alloc::{AllocError, Global};
 
 // Takes all pairs, by ascending keys. The memory is found before the first is taken.
 pub fn drain<W: WaitingList>(heap: Global, w: &mut W) -> Result<Vec<(usize, W::Key)>, AllocError>
-    ensures { MatchResult result (λ out. W.WaitingList.ordered w.old → Drained W.WaitingList.places W.WaitingList.waiting W.WaitingList.ordered W.Key.Key.leq w.old out.items w.new) (λ _. w.new ≡ w.old) }
+    ensures { MatchResult result (λ out. W.ordered w.old → Drained W.places W.waiting W.ordered W.Key.Key.leq w.old out.items w.new) (λ _. w.new ≡ w.old) }
 {
     let capacity = w.capacity();
     let mut out = Vec::with_capacity(heap, capacity)?;
+    // By turns, since a list that is not in order may never run out.
     for _ in 0..capacity {
-        match w.take() {
-            Some(pair) => out.push_reserved(pair),
-            None => return Ok(out),
-        }
+        let Some(pair) = w.take() else {
+            return Ok(out);
+        };
+        out.push_reserved(pair);
     }
     Ok(out)
 }

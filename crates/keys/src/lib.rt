@@ -19,7 +19,7 @@ pub trait Key: Copy {
     ghost trans: { (x y z : Self) → leq x y ≡ true → leq y z ≡ true → leq x z ≡ true };
 }
 
-#[derive(Clone, Copy)]
+#[derive(Clone, Copy, PartialEq, Eq, PartialOrd, Ord)]
 pub struct Distance(pub u64);
 
 impl Key for Distance {
@@ -32,11 +32,12 @@ impl Key for Distance {
     ghost trans = { Prim.search rules };
 
     fn at_most(self, other: Distance) -> bool {
-        self.0 <= other.0
+        self <= other
     }
 }
 
-#[derive(Clone, Copy)]
+// Pairs are compared by their sums, and by their heights where the sums are equal.
+#[derive(Clone, Copy, PartialEq, Eq, PartialOrd, Ord)]
 pub struct Pair {
     pub sum: u64,
     pub height: u64,
@@ -52,10 +53,6 @@ impl Key for Pair {
     ghost trans = { Prim.search rules };
 
     fn at_most(self, other: Pair) -> bool {
-        if self.sum == other.sum {
-            self.height <= other.height
-        } else {
-            self.sum < other.sum
-        }
+        self <= other
     }
 }

@@ -1,7 +1,7 @@
 // A waiting list that notes what is taken.
 #![tactic(auto)]
 
-ghost use Rattle.std.specs.Prelude.{◌≡◌, ◌≤◌, false, [], ◌∷◌, ◌++◌, if◌then◌else◌, Some, vec_len, vec_capacity};
+ghost use Rattle.std.specs.Prelude.{◌≡◌, Some};
 ghost use Rattle.lists.specs.Waits.{Cleared, Put, Took};
 ghost use Rattle.noting.specs.Notes.{Blank, Noted, Follows};
 ghost use Rattle.std.proofs.Common.{rules};
@@ -10,19 +10,11 @@ use keys::Key;
 use lists::{PutRefusal, WaitingList};
 use std::alloc::Global;
 
-// What was taken, complete until memory fails to note a pair.
+// What was taken, complete until memory fails to note a pair. A flag, since the pairs are kept also where one is lost.
 #[derive(Drop)]
 struct Log<P: Copy> {
     pairs: Vec<P>,
     complete: bool,
-}
-
-// Adds a pair, and says whether there was memory for it.
-fn add<P: Copy>(pairs: &mut Vec<P>, pair: P) -> bool
-    ensures items { pairs.new.items ≡ (if result then pairs.old.items ++ pair ∷ [] else pairs.old.items) }
-    ensures full { result ≡ false → vec_capacity pairs.old ≤ vec_len pairs.old }
-{
-    pairs.push(pair).is_ok()
 }
 
 impl<P: Copy> Log<P> {
@@ -40,7 +32,7 @@ impl<P: Copy> Log<P> {
         ensures noted { Noted self.old (Some pair) self.new }
         ensures follows { Follows self.old (Some pair) self.new }
     {
-        self.complete = self.complete && add(&mut self.pairs, pair);
+        self.complete = self.complete && self.pairs.push(pair).is_ok();
     }
 
     fn restart(&mut self)
@@ -95,11 +87,11 @@ impl<W: WaitingList> Noting<W> {
 impl<W: WaitingList> WaitingList for Noting<W> {
     type Key = W::Key;
 
-    ghost places = { λ s. W.WaitingList.places s.inner };
+    ghost places = { λ s. W.places s.inner };
 
-    ghost waiting = { λ s. W.WaitingList.waiting s.inner };
+    ghost waiting = { λ s. W.waiting s.inner };
 
-    ghost ordered = { λ s. W.WaitingList.ordered s.inner };
+    ghost ordered = { λ s. W.ordered s.inner };
 
     ghost within = { Prim.search rules };
 
@@ -108,30 +100,26 @@ impl<W: WaitingList> WaitingList for Noting<W> {
     }
 
     fn clear(&mut self)
-        ensures cleared { Cleared (λ s. W.WaitingList.places s.inner) (λ s. W.WaitingList.waiting s.inner) (λ s. W.WaitingList.ordered s.inner) self.old self.new }
+        ensures cleared { let list = ⟦<Noting<W> as WaitingList>⟧ in Cleared list.places list.waiting list.ordered self.old self.new }
         ensures log { self.new.log ≡ self.old.log }
     {
         self.inner.clear();
     }
 
     fn put(&mut self, rank: usize, key: W::Key) -> Result<(), PutRefusal>
-        ensures put { W.WaitingList.ordered self.old.inner → Put (λ s. W.WaitingList.places s.inner) (λ s. W.WaitingList.waiting s.inner) (λ s. W.WaitingList.ordered s.inner) W.Key.Key.leq self.old rank key result self.new }
+        ensures put { let list = ⟦<Noting<W> as WaitingList>⟧ in list.ordered self.old → Put list.places list.waiting list.ordered W.Key.Key.leq self.old rank key result self.new }
         ensures log { self.new.log ≡ self.old.log }
     {
         self.inner.put(rank, key)
     }
 
     fn take(&mut self) -> Option<(usize, W::Key)>
-        ensures took { W.WaitingList.ordered self.old.inner → Took (λ s. W.WaitingList.places s.inner) (λ s. W.WaitingList.waiting s.inner) (λ s. W.WaitingList.ordered s.inner) W.Key.Key.leq self.old result self.new }
+        ensures took { let list = ⟦<Noting<W> as WaitingList>⟧ in list.ordered self.old → Took list.places list.waiting list.ordered W.Key.Key.leq self.old result self.new }
         ensures noted { Noted self.old.log result self.new.log }
         ensures follows { Follows self.old.log result self.new.log }
     {
-        match self.inner.take() {
-            Some((rank, key)) => {
-                self.log.note((rank, key));
-                Some((rank, key))
-            }
-            None => None,
-        }
+        let pair = self.inner.take()?;
+        self.log.note(pair);
+        Some(pair)
     }
 }

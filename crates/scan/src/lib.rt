@@ -1,32 +1,16 @@
 // A waiting list that looks through all its ranks for the least key.
 #![tactic(auto)]
 
-ghost use Rattle.std.specs.Prelude.{◌≡◌, IfOk};
+ghost use Rattle.std.specs.Prelude.{IfOk};
 ghost use Rattle.lists.specs.Waits.{Fresh};
 ghost use Rattle.scan.specs.Means.{scan_places, scan_waiting, scan_ordered};
-ghost use Rattle.scan.specs.Rows.{Least, bettered};
+ghost use Rattle.scan.specs.Rows.{Least};
 ghost use Rattle.std.proofs.Common.{arith};
 ghost use Rattle.std.proofs.lemmas.List.{get_or_past};
 
 use keys::Key;
 use lists::{PutRefusal, WaitingList};
 use std::alloc::{AllocError, Global};
-
-// The better of the best so far and another.
-fn better<K: Key>(best: Option<(usize, K)>, rank: usize, key: K) -> Option<(usize, K)>
-    ensures { result ≡ bettered K.Key.leq best rank key }
-{
-    match best {
-        Some((at, old)) => {
-            if old.at_most(key) {
-                Some((at, old))
-            } else {
-                Some((rank, key))
-            }
-        }
-        None => Some((rank, key)),
-    }
-}
 
 // The key of each rank that waits.
 #[derive(Drop)]
@@ -39,21 +23,22 @@ impl<K: Key> Scan<K> {
     pub fn new(heap: Global, capacity: usize) -> Result<Scan<K>, AllocError>
         ensures { IfOk result (λ s. Fresh scan_places scan_waiting scan_ordered capacity s) }
     {
-        let mut keys = Vec::new(heap);
-        for _ in 0..capacity {
-            keys.push(None)?;
-        }
-        Ok(Scan { keys })
+        Ok(Scan {
+            keys: vec![in heap; None; capacity]?,
+        })
     }
 
     // The least key and its rank.
     fn least(&self) -> Option<(usize, K)>
         ensures { Least K.Key.leq self.now.keys.items result }
     {
-        let mut best = None;
-        for i in 0..self.keys.len() {
-            if let Some(key) = self.keys[i] {
-                best = better(best, i, key);
+        let mut best: Option<(usize, K)> = None;
+        for (rank, key) in self.keys.iter().enumerate() {
+            if let Some(key) = *key {
+                best = match best {
+                    Some((at, old)) if old.at_most(key) => Some((at, old)),
+                    _ => Some((rank, key)),
+                };
             }
         }
         best
@@ -76,31 +61,21 @@ impl<K: Key> WaitingList for Scan<K> {
     }
 
     fn clear(&mut self) {
-        for i in 0..self.keys.len() {
-            self.keys[i] = None;
-        }
+        self.keys.fill(None);
     }
 
     fn put(&mut self, rank: usize, key: K) -> Result<(), PutRefusal> {
-        if rank >= self.keys.len() {
-            return Err(PutRefusal::NoPlace);
-        }
-        match self.keys[rank] {
-            Some(old) => {
-                if !old.at_most(key) {
-                    self.keys[rank] = Some(key);
-                }
-            }
-            None => self.keys[rank] = Some(key),
+        let waits = self.keys.get_mut(rank).ok_or(PutRefusal::NoPlace)?;
+        match waits {
+            Some(old) if old.at_most(key) => {}
+            _ => *waits = Some(key),
         }
         Ok(())
     }
 
     fn take(&mut self) -> Option<(usize, K)> {
-        let best = self.least();
-        if let Some((rank, _)) = best {
-            self.keys[rank] = None;
-        }
-        best
+        let (rank, key) = self.least()?;
+        self.keys[rank] = None;
+        Some((rank, key))
     }
 }

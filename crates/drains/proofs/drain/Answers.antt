@@ -3,11 +3,11 @@ use Rattle.std.proofs.Common.{vec_items, arith}
 use Rattle.drains.proofs.Parts.{part_more, part_end, part_full}
 use Rattle.drains.proofs.drain.Goals as goal
 
-pub returns-in-None : goal.returns-in-None
-returns-in-None g c o =
+pub returns-in_default : goal.returns-in_default
+returns-in_default g c o =
     let m = g.W.WaitingList in
     let part = c.loop.invariant.2 o in
-    part_end m.places m.waiting m.ordered g.W.Key.Key.leq c.args.w.now (vec_items c.loop.out) c.loop.w part c.take.new.self (c.in-None.ensures part.still)
+    part_end m.places m.waiting m.ordered g.W.Key.Key.leq c.args.w.now (vec_items c.loop.out) c.loop.w part c.take.new.self (c.in_default.ensures part.still)
 
 pub loop-preserved : goal.loop-preserved
 loop-preserved g c =

@@ -1,7 +1,6 @@
 -- The best so far is the least of the keys that were passed.
-use Rattle.std.proofs.Common.{vec_items}
 use Rattle.scan.specs.Rows.{LeastTo}
 use Rattle.scan.proofs.Scan.least.Given as goal
 
-abbrev pub invariant-loop-i : goal.invariant-loop-i
-invariant-loop-i g l = LeastTo g.K.Key.leq (vec_items l.self.keys) l.i l.best
+abbrev pub invariant-loop-rank : goal.invariant-loop-rank
+invariant-loop-rank g l = LeastTo g.K.Key.leq l.key-items l.rank l.best
