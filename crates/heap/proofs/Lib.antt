@@ -1,5 +1,3 @@
-pub mod Adds
-pub mod Fields
 pub mod Heaps
-pub mod Stores
+pub mod Keys
 pub mod Swaps

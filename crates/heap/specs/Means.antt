@@ -9,5 +9,9 @@ heap_places h = vec_len h.keys
 abbrev pub heap_waiting : {K : Type 0} → Heap K → ℕ → Option K
 heap_waiting h q = slice_index_or (vec_items h.keys) q None
 
+-- whether one rank comes before another
+abbrev pub heap_before : {K : Type 0} → (K → K → Bool) → Heap K → ℕ → ℕ → Bool
+heap_before leq h = before leq (vec_items h.keys)
+
 abbrev pub heap_ordered : {K : Type 0} → (K → K → Bool) → Heap K → Type 0
-heap_ordered leq h = Heaped (before leq (vec_items h.keys)) (vec_items h.order) h.count
+heap_ordered leq h = Heaped (heap_before leq h) (vec_items h.ranking.order) h.count

@@ -1,5 +1,5 @@
 -- Heaps of ranks, and where each rank stands.
-use Rattle.std.specs.Prelude.{◌≡◌, ℕ, ◌-◌, ◌/◌, ◌<◌, ◌≤◌, Bool, true, false, List, length, is_some, Some, None, Option, ◌≢◌, slice_index, slice_index_or, slice_set}
+use Rattle.std.specs.Prelude.{◌≡◌, ℕ, ◌-◌, ◌/◌, ◌<◌, ◌≤◌, Bool, true, false, List, length, is_some, Some, None, Option, ◌≢◌, slice_index, slice_index_or}
 
 -- each number in `order` is below its length
 abbrev pub Smalls : List ℕ → Type 0
@@ -23,13 +23,6 @@ pub record Inverse (order spots : List ℕ) : Type 0 where
   pub there : Finds spots order
   pub within : Within order spots
   pub back : Backs order spots
-
-abbrev pub swapped : List ℕ → ℕ → ℕ → List ℕ
-swapped xs i j = slice_set (slice_set xs i (slice_index xs j)) j (slice_index xs i)
-
--- where the numbers of `order` stand once those at i and j are exchanged
-abbrev pub respotted : List ℕ → List ℕ → ℕ → ℕ → List ℕ
-respotted order spots i j = slice_set (slice_set spots (slice_index order j) i) (slice_index order i) j
 
 -- a key before another, and no key before any
 abbrev pub at_most : {K : Type 0} → (K → K → Bool) → Option K → Option K → Bool
@@ -67,8 +60,8 @@ Held keys order count = (k : ℕ) → k < count → is_some (slice_index_or keys
 abbrev pub Free : {K : Type 0} → List (Option K) → List ℕ → ℕ → Type 0
 Free keys order count = (k : ℕ) → count ≤ k → k < length order → is_some (slice_index_or keys (slice_index order k) None) ≡ false
 
-pub record Sound {K : Type 0} (keys : List (Option K)) (order spots : List ℕ) (count : ℕ) : Type 0 where
-  pub inverse : Inverse order spots
+-- the ranks with a key are the first `count` of `order`
+pub record Sound {K : Type 0} (keys : List (Option K)) (order : List ℕ) (count : ℕ) : Type 0 where
   pub long : length keys ≡ length order
   pub few : count ≤ length order
   pub held : Held keys order count

@@ -1,7 +1,7 @@
 // A waiting list as a binary heap of ranks.
 #![tactic(auto)]
 
-mod sift;
+mod ranking;
 mod store;
 
 pub use store::Heap;

@@ -1,11 +1,13 @@
 // The heap as a waiting list.
-ghost use Rattle.std.specs.Prelude.{◌≡◌, ℕ, ◌<◌, true, false, IfOk, None};
-ghost use Rattle.lists.specs.Waits.{Accepts, Fresh, Added, Taken};
+ghost use Rattle.std.specs.Prelude.{◌≡◌, ℕ, ◌<◌, ◌≤◌, IfOk, IfSome, Some, None, true, false, slice_index, slice_set};
+ghost use Rattle.lists.specs.Waits.{Fresh};
 ghost use Rattle.heap.specs.Means.{heap_places, heap_waiting, heap_ordered};
-ghost use Rattle.std.proofs.Common.{arith};
+ghost use Rattle.heap.specs.Rows.{at_most};
+ghost use Rattle.std.proofs.Common.{subst};
 ghost use Rattle.std.proofs.lemmas.List.{get_or_past};
 
-use crate::store::{Heap, add, remove, wipe};
+use crate::ranking::Ranking;
+use crate::store::Heap;
 use keys::Key;
 use lists::{PutRefusal, WaitingList};
 use std::alloc::{AllocError, Global};
@@ -15,55 +17,60 @@ impl<K: Key> Heap<K> {
     pub fn new(heap: Global, capacity: usize) -> Result<Heap<K>, AllocError>
         ensures { IfOk result (λ h. Fresh heap_places heap_waiting (heap_ordered K.Key.leq) capacity h) }
     {
-        let mut keys = Vec::new(heap);
-        let mut order = Vec::new(heap);
-        let mut spots = Vec::new(heap);
-        for i in 0..capacity {
-            keys.push(None)?;
-            order.push(i)?;
-            spots.push(i)?;
-        }
         Ok(Heap {
-            keys,
-            order,
-            spots,
+            keys: vec![in heap; None; capacity]?,
+            ranking: Ranking::new(heap, capacity)?,
             count: 0,
         })
     }
 
-    // Whether no rank waits.
-    fn is_empty(&self) -> bool
-        ensures none { result ≡ true → (q : ℕ) → heap_waiting self.now q ≡ None }
-        ensures some { result ≡ false → 0 < self.now.count }
+    // The first rank that waits, with its key.
+    fn first(&self) -> Option<(usize, K)>
+        ensures none { result ≡ None → (q : ℕ) → heap_waiting self.now q ≡ None }
+        ensures some { IfSome result (λ p. (0 < self.now.count) × (p.0 ≡ slice_index self.now.ranking.order.items 0) × (heap_waiting self.now p.0 ≡ Some p.1)) }
+        ensures least { heap_ordered K.Key.leq self.now → IfSome result (λ p. (q : ℕ) (k : K) → heap_waiting self.now q ≡ Some k → K.Key.leq p.1 k ≡ true) }
     {
-        self.count == 0
+        let rank = self.ranking.first()?;
+        let key = self.keys[rank]?;
+        Some((rank, key))
     }
 
-    // Adds a rank, or lowers its key.
-    fn place(&mut self, rank: usize, key: K)
-        requires { Accepts heap_places self.old rank key }
-        ensures { heap_ordered K.Key.leq self.old → Added heap_places heap_waiting (heap_ordered K.Key.leq) K.Key.leq self.old rank key self.new }
+    // Sets the key of a rank that waits to a lower one.
+    fn lower(&mut self, rank: usize, key: K)
+        requires { at_most K.Key.leq (heap_waiting self.old rank) (Some key) ≡ false }
+        ensures keys { self.new.keys.items ≡ slice_set self.old.keys.items rank (Some key) }
+        ensures heaped { heap_ordered K.Key.leq self.old → heap_ordered K.Key.leq self.new }
     {
-        self.count = add(
-            &mut self.keys,
-            &mut self.order,
-            &mut self.spots,
-            self.count,
-            rank,
-            key,
-        );
+        self.keys[rank] = Some(key);
+        let place = self.ranking.place_of(rank);
+        self.sift_up(place);
+    }
+
+    // Adds a rank that does not wait.
+    fn add(&mut self, rank: usize, key: K)
+        requires rank { rank < heap_places self.old }
+        requires none { heap_waiting self.old rank ≡ None }
+        ensures keys { self.new.keys.items ≡ slice_set self.old.keys.items rank (Some key) }
+        ensures heaped { heap_ordered K.Key.leq self.old → heap_ordered K.Key.leq self.new }
+    {
+        let place = self.ranking.place_of(rank);
+        self.ranking.exchange(place, self.count);
+        self.keys[rank] = Some(key);
+        self.count += 1;
+        self.sift_up(self.count - 1);
     }
 
     // Removes the first rank.
-    fn pull(&mut self) -> (usize, K)
+    fn remove_first(&mut self)
         requires { 0 < self.old.count }
-        ensures { heap_ordered K.Key.leq self.old → Taken heap_places heap_waiting (heap_ordered K.Key.leq) K.Key.leq self.old result.0 result.1 self.new }
+        ensures keys { self.new.keys.items ≡ slice_set self.old.keys.items (slice_index self.old.ranking.order.items 0) None }
+        ensures heaped { heap_ordered K.Key.leq self.old → heap_ordered K.Key.leq self.new }
     {
-        let rank = self.order[0];
-        let key = self.keys[rank].unwrap();
-        remove(&mut self.keys, &mut self.order, &mut self.spots, self.count);
+        let rank = self.ranking.at(0);
         self.count -= 1;
-        (rank, key)
+        self.ranking.exchange(0, self.count);
+        self.keys[rank] = None;
+        self.sift_down();
     }
 }
 
@@ -76,30 +83,32 @@ impl<K: Key> WaitingList for Heap<K> {
 
     ghost ordered = { heap_ordered K.Key.leq };
 
-    ghost within = { λ w q _ h. get_or_past _ q _ (omega (arith, w.keys.ok.0)) };
+    ghost within = { λ h q _ past. get_or_past _ q _ (subst (λ n. n ≤ q) h.keys.ok.0 past) };
 
     fn capacity(&self) -> usize {
         self.keys.len()
     }
 
     fn clear(&mut self) {
-        wipe(&mut self.keys);
+        self.keys.fill(None);
         self.count = 0;
     }
 
     fn put(&mut self, rank: usize, key: K) -> Result<(), PutRefusal> {
-        // A call on the whole leaves it the same value, as it has to be where the put is refused.
         if rank >= self.capacity() {
             return Err(PutRefusal::NoPlace);
         }
-        self.place(rank, key);
+        match self.keys[rank] {
+            Some(old) if old.at_most(key) => {}
+            Some(_) => self.lower(rank, key),
+            None => self.add(rank, key),
+        }
         Ok(())
     }
 
     fn take(&mut self) -> Option<(usize, K)> {
-        if self.is_empty() {
-            return None;
-        }
-        Some(self.pull())
+        let (rank, key) = self.first()?;
+        self.remove_first();
+        Some((rank, key))
     }
 }
