@@ -1,4 +1,5 @@
+pub mod AtRank
 pub mod Each
-pub mod Moved
 pub mod Numbered
 pub mod Sets
+pub mod Sums

@@ -30,10 +30,9 @@ pub fn state_count(task: &Task) -> usize
     ensures count { result ≡ states (model_of task.now) }
     ensures few { result ≤ 1048576 }
 {
-    let sizes = task.sizes();
     let mut count: usize = 1;
-    for z in sizes {
-        count *= *z as usize;
+    for size in task.sizes() {
+        count *= usize::from(*size);
     }
     count
 }

@@ -12,24 +12,13 @@ use tasks::{Operator, Task};
 fn included<T: PartialEq>(a: &[T], b: &[T]) -> bool
     ensures { Exact (λ x y r. r ≡ T.eq x y) → Decides result ((x : T) → ContainsAt a.now x → ContainsAt b.now x) }
 {
-    for x in a {
-        if !b.contains(x) {
-            return false;
-        }
-    }
-    true
+    a.iter().all(|x| b.contains(x))
 }
 
 fn same_set<T: PartialEq>(a: &[T], b: &[T]) -> bool
     ensures { Exact (λ x y r. r ≡ T.eq x y) → Decides result (SameSet a.now b.now) }
 {
     included(a, b) && included(b, a)
-}
-
-fn same_sizes(a: &[u8], b: &[u8]) -> bool
-    ensures { Decides result (a.now ≡ b.now) }
-{
-    a == b
 }
 
 fn same_operator(a: &Operator, b: &Operator) -> bool
@@ -41,15 +30,7 @@ fn same_operator(a: &Operator, b: &Operator) -> bool
 fn same_operators(a: &[Operator], b: &[Operator]) -> bool
     ensures { Decides result (SameActions (map action a.now) (map action b.now)) }
 {
-    if a.len() != b.len() {
-        return false;
-    }
-    for i in 0..a.len() {
-        if !same_operator(&a[i], &b[i]) {
-            return false;
-        }
-    }
-    true
+    a.len() == b.len() && a.iter().zip(b).all(|(x, y)| same_operator(x, y))
 }
 
 // Whether two tasks are equal: the same sizes in order, the same goal as a set, and operators in the same order with the
@@ -58,11 +39,7 @@ pub fn same(a: &Task, b: &Task) -> bool
     ensures decides { Decides result (Same (model_of a.now) (model_of b.now)) }
     ensures alike { result ≡ true → Alike (model_of a.now) (model_of b.now) × Alike (model_of b.now) (model_of a.now) }
 {
-    if !same_sizes(a.sizes(), b.sizes()) {
-        return false;
-    }
-    if !same_set(a.goal(), b.goal()) {
-        return false;
-    }
-    same_operators(a.operators(), b.operators())
+    a.sizes() == b.sizes()
+        && same_set(a.goal(), b.goal())
+        && same_operators(a.operators(), b.operators())
 }

@@ -1,5 +1,6 @@
 // States by rank, and the ranks of states.
-ghost use Rattle.std.specs.Prelude.{◌≡◌, ◌<◌, length, Decides, MatchResult};
+ghost use Rattle.std.specs.Prelude.{◌≡◌, ℕ, ◌<◌, ◌≤◌, List, length, Decides, MatchOption, MatchResult};
+ghost use Rattle.std.specs.Fn.{FnOnceReturnsAtMut};
 ghost use Rattle.sas.specs.Ranks.{states};
 ghost use Rattle.sas.specs.States.{State};
 ghost use Rattle.states.specs.Ranked.{RankOf, StateOf, Unranked};
@@ -7,7 +8,7 @@ ghost use Rattle.states.specs.Refusals.{number_of};
 ghost use Rattle.states.specs.declared.ranks.StateRefusal.TheVariants.{Memory, NoState};
 ghost use Rattle.tasks.specs.View.{model_of};
 
-use crate::counts::{state_count, variables};
+use crate::counts::state_count;
 use std::alloc::{AllocError, Global};
 use tasks::Task;
 
@@ -44,15 +45,7 @@ pub(super) fn is_state(task: &Task, values: &[u8]) -> bool
     ensures { Decides result (State (model_of task.now).sizes values.now) }
 {
     let sizes = task.sizes();
-    if values.len() != sizes.len() {
-        return false;
-    }
-    for i in 0..sizes.len() {
-        if values[i] >= sizes[i] {
-            return false;
-        }
-    }
-    true
+    values.len() == sizes.len() && values.iter().zip(sizes).all(|(value, size)| value < size)
 }
 
 // The number of a state.
@@ -65,37 +58,49 @@ pub fn rank(task: &Task, values: &[u8]) -> Result<usize, StateRefusal>
     let sizes = task.sizes();
     let mut sum: usize = 0;
     let mut coefficient: usize = 1;
-    for i in 0..sizes.len() {
-        sum += coefficient * values[i] as usize;
-        coefficient *= sizes[i] as usize;
+    for (value, size) in values.iter().zip(sizes) {
+        sum += coefficient * usize::from(*value);
+        coefficient *= usize::from(*size);
     }
     Ok(sum)
 }
 
 // Writes the state of a rank.
-pub(super) fn unpack(task: &Task, rank: usize, values: &mut [u8])
+fn unpack(task: &Task, rank: usize, values: &mut [u8])
     requires even { length values.old ≡ length (model_of task.now).sizes }
     requires below { rank < states (model_of task.now) }
     ensures { StateOf (model_of task.now) rank values.new }
 {
     let sizes = task.sizes();
     let mut rest = rank;
-    for i in 0..sizes.len() {
-        let z = sizes[i] as usize;
-        values[i] = (rest % z) as u8;
-        rest /= z;
+    // By index: after a zip with `iter_mut` a proof knows the length of what was written, and no element.
+    for (i, size) in sizes.iter().enumerate() {
+        let size = usize::from(*size);
+        values[i] = (rest % size) as u8;
+        rest /= size;
     }
+}
+
+// What `f` gives of the values of the state of a rank, if there is one.
+pub(super) fn at_rank<T, F: FnOnce(&mut [u8]) -> T>(task: &Task, rank: usize, f: F) -> Option<T>
+    requires { F.IsAlwaysCallable f }
+    ensures { MatchOption result (states (model_of task.now) ≤ rank) (λ t. (rank < states (model_of task.now)) × (s : List ℕ) × (u : List ℕ) × StateOf (model_of task.now) rank s × FnOnceReturnsAtMut F.FnOnce f s t u) }
+{
+    if rank >= state_count(task) {
+        return None;
+    }
+    let mut room = [0u8; 16];
+    let values = &mut room[..task.sizes().len()];
+    unpack(task, rank, values);
+    Some(f(values))
 }
 
 // The state of a rank.
 pub fn state(heap: Global, task: &Task, rank: usize) -> Result<Vec<u8>, StateRefusal>
     ensures { MatchResult result (λ v. StateOf (model_of task.now) rank v.items) (Unranked (model_of task.now) rank) }
 {
-    if rank >= state_count(task) {
-        return Err(StateRefusal::NoRank);
-    }
-    let mut room = [0u8; 16];
-    let values = &mut room[..variables(task)];
-    unpack(task, rank, values);
-    Ok(Vec::from_slice(heap, values)?)
+    let values = at_rank(task, rank, |values| Vec::from_slice(heap, values)).ok_or(
+        StateRefusal::NoRank,
+    )?;
+    Ok(values?)
 }

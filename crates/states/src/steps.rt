@@ -3,79 +3,44 @@ ghost use Rattle.std.specs.Prelude.{◌≡◌, ℕ, ◌<◌, true, false, List, 
 ghost use Rattle.sas.specs.Ranks.{GoalRank, StepRank, states};
 ghost use Rattle.sas.specs.States.{Applies, Goal, Holds, Stands, Step, outcome};
 ghost use Rattle.std.specs.List.{AllByRecursion};
+ghost use Rattle.states.specs.Ranked.{RankOf};
 ghost use Rattle.tasks.specs.View.{model_of};
 
-use crate::counts::{state_count, variables};
 use crate::ranks;
-use crate::ranks::{is_state, unpack};
-use sas::{Fact, Precondition};
+use crate::ranks::{at_rank, is_state};
+use sas::Fact;
 use tasks::Task;
 
 // Whether a variable is there and has a value.
 fn has_value(values: &[u8], variable: u8, value: u8) -> bool
     ensures { Decides result ((variable < length values.now) × (slice_index values.now variable ≡ value)) }
 {
-    let place = variable as usize;
-    place < values.len() && values[place] == value
-}
-
-// What can be asked of values.
-trait Condition {
-    ghost met: { Self → List ℕ → Type 0 };
-
-    fn is_met(&self, values: &[u8]) -> bool
-        ensures { Decides result (met self.now values.now) };
-}
-
-impl Condition for Precondition {
-    ghost met = { λ p s. (p.variable < length s) × Holds p s };
-
-    fn is_met(&self, values: &[u8]) -> bool {
-        has_value(values, self.variable, self.value)
-    }
-}
-
-impl Condition for Fact {
-    ghost met = { λ f s. (f.variable < length s) × Stands f s };
-
-    fn is_met(&self, values: &[u8]) -> bool {
-        has_value(values, self.variable, self.value)
-    }
-}
-
-fn all_met<C: Condition>(conditions: &[C], values: &[u8]) -> bool
-    ensures { Decides result (AllByRecursion (λ c. C.Condition.met c values.now) conditions.now) }
-{
-    for condition in conditions {
-        if !condition.is_met(values) {
-            return false;
-        }
-    }
-    true
+    values.get(usize::from(variable)) == Some(&value)
 }
 
 // Whether an operator applies to the values of a state.
 pub fn applies(task: &Task, operator: usize, values: &[u8]) -> bool
     ensures { Decides result (Applies (model_of task.now) operator values.now) }
 {
-    let operators = task.operators();
-    if operator >= operators.len() {
+    let Some(operator) = task.operators().get(operator) else {
         return false;
-    }
-    if !is_state(task, values) {
-        return false;
-    }
-    all_met(operators[operator].preconditions(), values)
+    };
+    is_state(task, values)
+        && operator
+            .preconditions()
+            .iter()
+            .all(|p| has_value(values, p.variable, p.value))
 }
 
 // Whether the values are those of a goal state.
 pub fn is_goal(task: &Task, values: &[u8]) -> bool
     ensures { Decides result (Goal (model_of task.now) values.now) }
 {
-    if !is_state(task, values) {
-        return false;
-    }
-    all_met(task.goal(), values)
+    is_state(task, values)
+        && task
+            .goal()
+            .iter()
+            .all(|f| has_value(values, f.variable, f.value))
 }
 
 // Puts effects in.
@@ -84,7 +49,7 @@ fn put(effects: &[Fact], values: &mut [u8])
     ensures { values.new ≡ outcome effects.now values.old }
 {
     for f in effects {
-        values[f.variable as usize] = f.value;
+        values[usize::from(f.variable)] = f.value;
     }
 }
 
@@ -101,31 +66,26 @@ pub fn apply(task: &Task, operator: usize, values: &mut [u8]) -> bool
     true
 }
 
-// The rank to which an operator leads.
-pub fn successor(task: &Task, operator: usize, rank: usize) -> Option<usize>
-    ensures { MatchOption result ((t : ℕ) → StepRank (model_of task.now) operator rank t → ⊥) (λ t. StepRank (model_of task.now) operator rank t × (t < states (model_of task.now))) }
+// The rank of what an operator makes of the values of a state.
+fn rank_after(task: &Task, operator: usize, values: &mut [u8]) -> Option<usize>
+    ensures { MatchOption result (Applies (model_of task.now) operator values.old → ⊥) (λ t. (u : List ℕ) × Step (model_of task.now) operator values.old u × RankOf (model_of task.now) u t) }
 {
-    if rank >= state_count(task) {
-        return None;
-    }
-    let mut room = [0u8; 16];
-    let values = &mut room[..variables(task)];
-    unpack(task, rank, values);
     if !apply(task, operator, values) {
         return None;
     }
     ranks::rank(task, values).ok()
 }
 
+// The rank to which an operator leads.
+pub fn successor(task: &Task, operator: usize, rank: usize) -> Option<usize>
+    ensures { MatchOption result ((t : ℕ) → StepRank (model_of task.now) operator rank t → ⊥) (λ t. StepRank (model_of task.now) operator rank t × (t < states (model_of task.now))) }
+{
+    at_rank(task, rank, |values| rank_after(task, operator, values)).flatten()
+}
+
 // Whether a number is the rank of a goal state.
 pub fn is_goal_rank(task: &Task, rank: usize) -> bool
     ensures { Decides result (GoalRank (model_of task.now) rank) }
 {
-    if rank >= state_count(task) {
-        return false;
-    }
-    let mut room = [0u8; 16];
-    let values = &mut room[..variables(task)];
-    unpack(task, rank, values);
-    is_goal(task, values)
+    at_rank(task, rank, |values| is_goal(task, values)).unwrap_or(false)
 }

@@ -3,5 +3,5 @@ use Rattle.std.proofs.Common.{◌≡◌, ◌*◌, drop}
 use Rattle.sas.specs.Model.{product}
 use Rattle.states.proofs.counts.state_count.Given as goal
 
-abbrev pub invariant-loop-z : goal.invariant-loop-z
-invariant-loop-z l = l.count * product (drop l.z-index l.sizes) ≡ product l.sizes
+abbrev pub invariant-loop-size : goal.invariant-loop-size
+invariant-loop-size l = l.count * product (drop l.size-index l.size-items) ≡ product l.size-items

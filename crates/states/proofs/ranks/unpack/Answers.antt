@@ -20,7 +20,7 @@ overflow_cast-values c =
     omega (arith, sized, mod-lt c.loop-i.rest {m = z} (omega (arith, sized)))
 
 pub loop-i-preserved : goal.loop-i-preserved
-loop-i-preserved c = spread_more c.sizes-sizes.result.now c.loop-i.values c.loop-i.i c.loop-i.rest _ c.loop-i-test.true (omega (arith, c.loop-i.auto.values, c.requires.even, ap length c.sizes-sizes.ensures.value)) c.loop-i.invariant
+loop-i-preserved c = rw c.from-size.ensures (spread_more c.sizes-sizes.result.now c.loop-i.values c.loop-i.i c.loop-i.rest _ c.loop-i-test.true (omega (arith, c.loop-i.auto.values, c.requires.even, ap length c.sizes-sizes.ensures.value)) c.loop-i.invariant)
 
 pub returns : goal.returns
 returns c =

@@ -1,12 +1,8 @@
 -- The goal is tested in the state of the rank.
-use Rattle.std.proofs.Common.{arith}
-use Rattle.std.proofs.lemmas.Bool.{false≢true}
-use Rattle.sas.proofs.Moves.{goal_rank_inside, goal_rank_decides}
+use Rattle.std.proofs.Common.{rules}
 use Rattle.tasks.specs.View.{model_of}
+use Rattle.states.proofs.AtRank.{goal_told}
 use Rattle.states.proofs.steps.is_goal_rank.Goals as goal
 
-pub returns-then-rank-state_count : goal.returns-then-rank-state_count
-returns-then-rank-state_count c = (λ e. absurd (false≢true e), λ q. absurd (omega (arith, goal_rank_inside (model_of c.args.task.now) c.args.rank q, c.state_count.ensures.count, c.if-rank-state_count.true)))
-
 pub returns : goal.returns
-returns c = goal_rank_decides (model_of c.args.task.now) c.args.rank c.unpack.new.values c.is_goal.result c.unpack.ensures.state c.unpack.ensures.value c.is_goal.ensures
+returns c = rw c.unwrap_or.ensures (goal_told (model_of c.args.task.now) c.args.rank _ (λ s u t k. search rules) c.at_rank.result c.at_rank.ensures)

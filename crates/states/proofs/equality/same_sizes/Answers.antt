@@ -1,7 +1,0 @@
--- The test of slices decides their equality.
-use Rattle.std.proofs.lemmas.Slice.Eq.{slice_eq-Decides}
-use Rattle.states.proofs.equality.same_sizes.Goals as goal
-use Rattle.std.proofs.lemmas.Bool.Decides.{Decides-eqb}
-
-pub returns : goal.returns
-returns c = slice_eq-Decides Decides-eqb _ _ _ c.eq.ensures
