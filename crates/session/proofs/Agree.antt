@@ -1,5 +1,5 @@
 -- What calls lead to is one.
-use Rattle.std.proofs.Common.{◌≡◌, ℕ, List, [], ◌∷◌, Some, None, Ok, Err, Option, Result, sym, ap, ◌∙◌, subst}
+use Rattle.std.proofs.Common.{◌≡◌, ℕ, List, [], ◌∷◌, Ok, Err, Result, sym, ap, ◌∙◌, subst}
 use Rattle.session.specs.Bench.{Bench}
 use Rattle.session.specs.Begins.{BeginsUnless, hindered}
 use Rattle.session.specs.Changes.{kept}
@@ -8,12 +8,12 @@ use Rattle.session.specs.declared.session.calls.Call.{Call}
 use Rattle.session.specs.declared.session.calls.Call.TheVariants.{SetCost, Bar, Free, Place, Begin, Done, Abandon, Trial, Wear}
 use Rattle.session.specs.declared.session.refusal.Refusal.{Refusal}
 
-begins_agree : (h : Option Refusal) (o : ℕ) (b : Bench) (r s : Result Bench Refusal) → BeginsUnless h o b r → BeginsUnless h o b s → r ≡ s
-begins_agree (Some e) o b r s p q = p ∙ sym q
-begins_agree None o b (Ok c) (Ok d) p q = ap Ok (p.1 ∙ sym q.1)
-begins_agree None o b (Ok c) (Err e) p q = absurd (q.0 p.0)
-begins_agree None o b (Err e) (Ok d) p q = absurd (p.0 q.0)
-begins_agree None o b (Err e) (Err f) p q = ap Err (p.1 ∙ sym q.1)
+begins_agree : (h : Result (Unit {0}) Refusal) (o : ℕ) (b : Bench) (r s : Result Bench Refusal) → BeginsUnless h o b r → BeginsUnless h o b s → r ≡ s
+begins_agree (Err e) o b r s p q = p ∙ sym q
+begins_agree (Ok x) o b (Ok c) (Ok d) p q = ap Ok (p.1 ∙ sym q.1)
+begins_agree (Ok x) o b (Ok c) (Err e) p q = absurd (q.0 p.0)
+begins_agree (Ok x) o b (Err e) (Ok d) p q = absurd (p.0 q.0)
+begins_agree (Ok x) o b (Err e) (Err f) p q = ap Err (p.1 ∙ sym q.1)
 
 pub leads_agree : (call : Call) (b : Bench) (r s : Result Bench Refusal) → Leads call b r → Leads call b s → r ≡ s
 leads_agree (SetCost o c) b r s p q = p ∙ sym q

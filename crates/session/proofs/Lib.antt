@@ -3,4 +3,3 @@ pub mod Back
 pub mod Ending
 pub mod Following
 pub mod Holding
-pub mod Making

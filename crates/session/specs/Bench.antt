@@ -3,7 +3,7 @@ use Rattle.std.specs.Prelude.{ℕ, List, map, None, vec_items, Option, slice_set
 use Rattle.sas.specs.Model.{Model}
 use Rattle.tasks.specs.View.{model_of}
 use Rattle.session.specs.Rows.{table, freed}
-use Rattle.session.specs.declared.rows.Row.{Row}
+use Rattle.sas.specs.declared.Row.{Row}
 use Rattle.session.specs.declared.session.Session.{Session}
 
 -- the task, the present state, a row for each operator, the operator of the step under way, and the wear

@@ -6,11 +6,7 @@ use Rattle.session.specs.Bench.{Bench, with_rows, with_state, with_step, with_we
 use Rattle.session.specs.declared.session.refusal.Refusal.{Refusal}
 use Rattle.session.specs.declared.session.refusal.Refusal.TheVariants.{NoSuch, CostTooHigh, StepUnderWay, NoStep}
 
--- the answer to a call, and the bench after it: a refused call changes nothing
-abbrev pub said : Result Bench Refusal → Result (Unit {0}) Refusal
-said (Ok b) = Ok tt
-said (Err e) = Err e
-
+-- the bench after a call: a refused one changes nothing
 abbrev pub kept : Bench → Result Bench Refusal → Bench
 kept b (Ok c) = c
 kept b (Err e) = b

@@ -3,6 +3,7 @@ pub mod Sound
 pub mod Refusals
 pub mod Bench
 pub mod Opening
+pub mod Answers
 pub mod Changes
 pub mod Begins
 pub mod Tickets

@@ -1,6 +1,6 @@
 -- When a session is opened, and why not.
 use Rattle.std.specs.Prelude.{◌≡◌, ℕ, ◌<◌, List, length, Ok, Err, Result}
-use Rattle.std.specs.List.{AllByRecursion}
+use Rattle.std.specs.List.{All}
 use Rattle.sas.specs.Model.{Model}
 use Rattle.sas.specs.States.{State}
 use Rattle.session.specs.Bench.{bench, fresh}
@@ -14,7 +14,7 @@ Suits m costs values = (length costs ≡ length m.operators) × State m.sizes va
 
 -- no cost is over 65,535
 abbrev pub Payable : List ℕ → Type 0
-Payable costs = AllByRecursion (λ c. c < 65536) costs
+Payable costs = All (λ c. c < 65536) costs
 
 abbrev pub Unopened : Model → List ℕ → List ℕ → Refusal → Type 0
 Unopened m costs values NoSuch = Suits m costs values → ⊥

@@ -1,6 +1,6 @@
 -- What rows hold, and a change of one.
 use Rattle.std.specs.Prelude.{ℕ, Bool, false, List, vec_items, slice_index_or, slice_set}
-use Rattle.session.specs.declared.rows.Row.{Row}
+use Rattle.sas.specs.declared.Row.{Row}
 use Rattle.session.specs.declared.rows.Rows.{Rows}
 
 abbrev pub table : Rows → List Row

@@ -5,7 +5,7 @@
 mod rows;
 mod session;
 
-pub use rows::Row;
+pub use sas::Row;
 pub use session::Session;
 pub use session::calls::Call;
 pub use session::check::CheckFault;

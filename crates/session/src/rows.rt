@@ -1,16 +1,11 @@
 // Rows of costs and bars, one for each operator. Each change is of one row, which is lent for it; where there is no such
 // row nothing changes.
-ghost use Rattle.std.specs.Prelude.{◌≡◌, ◌<◌, map, length, IfOk, slice_set};
+ghost use Rattle.std.specs.Prelude.{◌≡◌, map, IfOk, slice_get, slice_set};
+ghost use Rattle.session.specs.Opening.{Payable};
 ghost use Rattle.session.specs.Rows.{freed, row_at, table, with_bar, with_cost};
-ghost use Rattle.std.specs.List.{AllByRecursion};
 
+use sas::Row;
 use std::alloc::{AllocError, Global};
-
-#[derive(Clone, Copy)]
-pub struct Row {
-    pub cost: u16,
-    pub barred: bool,
-}
 
 #[derive(Drop)]
 pub struct Rows {
@@ -20,37 +15,33 @@ pub struct Rows {
 impl Rows {
     // A row with each cost, and no bar.
     pub(crate) fn new(heap: Global, costs: &[u32]) -> Result<Rows, AllocError>
-        requires { AllByRecursion (λ c. c < 65536) costs.now }
+        requires { Payable costs.now }
         ensures { IfOk result (λ t. table t ≡ map freed costs.now) }
     {
-        let mut rows = Vec::new(heap);
-        for c in costs {
-            rows.push(Row {
+        let rows = costs
+            .iter()
+            .map(|c| Row {
                 cost: *c as u16,
                 barred: false,
-            })?;
-        }
+            })
+            .collect(heap)?;
         Ok(Rows { rows })
     }
 
-    pub(crate) fn len(&self) -> usize
-        ensures { result ≡ length (table self.now) }
+    pub(crate) fn get(&self, i: usize) -> Option<Row>
+        ensures { result ≡ slice_get (table self.now) i }
     {
-        self.rows.len()
+        self.rows.get(i).copied()
     }
 
     // The row of an operator; past the last one, a row of no cost and no bar.
     pub(crate) fn at(&self, i: usize) -> Row
         ensures { result ≡ row_at (table self.now) i }
     {
-        if i < self.rows.len() {
-            self.rows[i]
-        } else {
-            Row {
-                cost: 0,
-                barred: false,
-            }
-        }
+        self.get(i).unwrap_or(Row {
+            cost: 0,
+            barred: false,
+        })
     }
 
     pub(crate) fn set_cost(&mut self, i: usize, cost: u16)

@@ -11,6 +11,7 @@ use tasks::Task;
 pub mod calls;
 pub mod changes;
 pub mod check;
+pub mod conditions;
 pub mod open;
 pub mod refusal;
 pub mod steps;

@@ -1,7 +1,8 @@
 // Calls as values, and a session that makes a list of them.
-ghost use Rattle.session.specs.Begins.{leads};
+ghost use Rattle.std.specs.Prelude.{◌≡◌, OnErr};
+ghost use Rattle.session.specs.Answers.{leads};
 ghost use Rattle.session.specs.Bench.{bench};
-ghost use Rattle.session.specs.Calls.{After, Leads, Replayed};
+ghost use Rattle.session.specs.Calls.{Leads, Replayed};
 
 use super::Session;
 use super::refusal::Refusal;
@@ -23,7 +24,7 @@ pub enum Call {
 impl Session {
     pub fn call(&mut self, call: Call) -> Result<(), Refusal>
         ensures answer { Leads call (bench self.old) (leads result (bench self.new)) }
-        ensures after { After call (bench self.old) (bench self.new) }
+        ensures unchanged { OnErr result (bench self.new ≡ bench self.old) }
     {
         match call {
             Call::SetCost(operator, cost) => self.set_cost(operator, cost),

@@ -1,9 +1,11 @@
 // Changes of one row or of one variable; a refusal changes nothing.
-ghost use Rattle.std.specs.Prelude.{◌≡◌, true, false, is_err};
+ghost use Rattle.std.specs.Prelude.{◌≡◌, true, false};
+ghost use Rattle.session.specs.Answers.{Answers};
 ghost use Rattle.session.specs.Bench.{bench};
-ghost use Rattle.session.specs.Changes.{barred_by, costed, kept, placed, said};
+ghost use Rattle.session.specs.Changes.{barred_by, costed, placed};
 
 use super::Session;
+use super::conditions::fitting;
 use super::refusal::Refusal;
 
 impl Session {
@@ -14,62 +16,41 @@ impl Session {
     }
 
     pub fn set_cost(&mut self, operator: usize, cost: u32) -> Result<(), Refusal>
-        ensures answer { result ≡ said (costed operator cost (bench self.old)) }
-        ensures after { bench self.new ≡ kept (bench self.old) (costed operator cost (bench self.old)) }
-        ensures untouched { is_err result ≡ true → self.new ≡ self.old }
+        ensures { Answers result self.old self.new (costed operator cost (bench self.old)) }
     {
-        if operator >= self.rows.len() {
-            return Err(Refusal::NoSuch);
-        }
-        if cost > 65535 {
-            return Err(Refusal::CostTooHigh);
-        }
-        self.rows.set_cost(operator, cost as u16);
+        self.row(operator)?;
+        let cost = fitting(cost)?;
+        self.rows.set_cost(operator, cost);
         Ok(())
     }
 
     fn set_bar(&mut self, operator: usize, barred: bool) -> Result<(), Refusal>
-        ensures answer { result ≡ said (barred_by barred operator (bench self.old)) }
-        ensures after { bench self.new ≡ kept (bench self.old) (barred_by barred operator (bench self.old)) }
-        ensures untouched { is_err result ≡ true → self.new ≡ self.old }
+        ensures { Answers result self.old self.new (barred_by barred operator (bench self.old)) }
     {
-        if operator >= self.rows.len() {
-            return Err(Refusal::NoSuch);
-        }
+        self.row(operator)?;
         self.rows.set_bar(operator, barred);
         Ok(())
     }
 
     pub fn bar(&mut self, operator: usize) -> Result<(), Refusal>
-        ensures answer { result ≡ said (barred_by true operator (bench self.old)) }
-        ensures after { bench self.new ≡ kept (bench self.old) (barred_by true operator (bench self.old)) }
-        ensures untouched { is_err result ≡ true → self.new ≡ self.old }
+        ensures { Answers result self.old self.new (barred_by true operator (bench self.old)) }
     {
         self.set_bar(operator, true)
     }
 
     pub fn free(&mut self, operator: usize) -> Result<(), Refusal>
-        ensures answer { result ≡ said (barred_by false operator (bench self.old)) }
-        ensures after { bench self.new ≡ kept (bench self.old) (barred_by false operator (bench self.old)) }
-        ensures untouched { is_err result ≡ true → self.new ≡ self.old }
+        ensures { Answers result self.old self.new (barred_by false operator (bench self.old)) }
     {
         self.set_bar(operator, false)
     }
 
     // Sets one variable of the present state.
     pub fn place(&mut self, variable: usize, value: u8) -> Result<(), Refusal>
-        ensures answer { result ≡ said (placed variable value (bench self.old)) }
-        ensures after { bench self.new ≡ kept (bench self.old) (placed variable value (bench self.old)) }
-        ensures untouched { is_err result ≡ true → self.new ≡ self.old }
+        ensures { Answers result self.old self.new (placed variable value (bench self.old)) }
     {
-        if self.step.is_some() {
-            return Err(Refusal::StepUnderWay);
-        }
-        let sizes = self.task.sizes();
-        if variable >= sizes.len() {
-            return Err(Refusal::NoSuch);
-        }
-        if value >= sizes[variable] {
+        self.idle()?;
+        let size = self.task.sizes().get(variable).ok_or(Refusal::NoSuch)?;
+        if value >= *size {
             return Err(Refusal::NoSuch);
         }
         self.state[variable] = value;

@@ -42,13 +42,7 @@ impl Session {
     fn go(&self, operator: usize, values: &mut [u8]) -> Result<u16, Refusal>
         ensures { Went (bench self.now) operator values.old values.new result }
     {
-        if operator >= self.rows.len() {
-            return Err(Refusal::NoSuch);
-        }
-        let row = self.rows.at(operator);
-        if row.barred {
-            return Err(Refusal::Barred);
-        }
+        let row = self.unbarred(operator)?;
         if !states::apply(&self.task, operator, values) {
             return Err(Refusal::Unmet);
         }
@@ -61,11 +55,11 @@ impl Session {
         ensures { Followed (bench self.now) steps.now values.new result }
     {
         let mut sum: u64 = 0;
-        for i in 0..steps.len() {
-            match self.go(steps[i], values) {
-                Ok(cost) => sum = added(sum, cost),
-                Err(refusal) => return Err(CheckFault::At(i, refusal)),
-            }
+        for (i, operator) in steps.iter().enumerate() {
+            let cost = self
+                .go(*operator, values)
+                .map_err(|refusal| CheckFault::At(i, refusal))?;
+            sum = added(sum, cost);
         }
         Ok(sum)
     }
@@ -74,9 +68,7 @@ impl Session {
     pub fn check(&self, steps: &[usize]) -> Result<u64, CheckFault>
         ensures { Checked (bench self.now) steps.now result }
     {
-        if self.step.is_some() {
-            return Err(CheckFault::Busy);
-        }
+        self.idle().map_err(|_| CheckFault::Busy)?;
         let mut room = [0u8; 16];
         let values = &mut room[..states::variables(&self.task)];
         values.copy_from_slice(self.state.as_slice());

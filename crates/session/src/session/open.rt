@@ -1,7 +1,6 @@
 // A session is opened on a task, costs and the values of a state.
-ghost use Rattle.std.specs.Prelude.{◌<◌, Decides};
-ghost use Rattle.session.specs.Opening.{Opened};
-ghost use Rattle.std.specs.List.{AllByRecursion};
+ghost use Rattle.std.specs.Prelude.{Decides};
+ghost use Rattle.session.specs.Opening.{Opened, Payable};
 ghost use Rattle.tasks.specs.View.{model_of};
 
 use super::Session;
@@ -11,14 +10,9 @@ use std::alloc::Global;
 use tasks::Task;
 
 fn payable(costs: &[u32]) -> bool
-    ensures { Decides result (AllByRecursion (λ c. c < 65536) costs.now) }
+    ensures { Decides result (Payable costs.now) }
 {
-    for c in costs {
-        if *c > 65535 {
-            return false;
-        }
-    }
-    true
+    costs.iter().all(|c| *c < 65536)
 }
 
 impl Session {
@@ -29,9 +23,7 @@ impl Session {
         if costs.len() != states::operators(task) {
             return Err(Refusal::NoSuch);
         }
-        if states::rank(task, values).is_err() {
-            return Err(Refusal::NoSuch);
-        }
+        states::rank(task, values).map_err(|_| Refusal::NoSuch)?;
         if !payable(costs) {
             return Err(Refusal::CostTooHigh);
         }

@@ -1,19 +1,20 @@
 // A trial changes one row for as long as it lasts; when it ends its drop puts the row back.
 ghost use Rattle.std.specs.Prelude.{◌≡◌};
+ghost use Rattle.std.specs.Result.{result_map_both};
 ghost use Rattle.session.specs.Bench.{bench};
-ghost use Rattle.session.specs.Changes.{said};
-ghost use Rattle.session.specs.Trials.{ended, tried, trying, untried};
+ghost use Rattle.session.specs.Trials.{ended, trying, untried};
 
 use super::Session;
+use super::conditions::fitting;
 use super::refusal::Refusal;
-use crate::rows::Row;
+use sas::Row;
 
 // A refused trial changes no row, and puts back what stands there.
 pub struct Trial<'a> {
     session: &'a mut Session,
     operator: usize,
     old: Row,
-    refusal: Option<Refusal>,
+    verdict: Result<(), Refusal>,
 }
 
 impl Drop for Trial<'_> {
@@ -24,75 +25,56 @@ impl Drop for Trial<'_> {
             session,
             operator,
             old,
-            refusal: _,
+            verdict: _,
         } = self;
         session.rows.put(operator, old);
     }
 }
 
 impl Trial<'_> {
-    // Why the trial was refused, if it was.
-    pub(super) fn refusal(&self) -> Option<Refusal>
-        ensures { result ≡ self.entry.now.refusal }
+    // Whether the trial is taken, or why it was refused.
+    pub(super) fn verdict(&self) -> Result<(), Refusal>
+        ensures { result ≡ self.entry.now.verdict }
     {
-        self.refusal
+        self.verdict
     }
 }
 
 impl Session {
-    fn untried(&self, operator: usize, cost: u32) -> Option<Refusal>
-        ensures { result ≡ untried operator cost (bench self.now) }
+    // The row that a trial puts in, where it is taken.
+    fn tried(&self, operator: usize, cost: u32, barred: bool) -> Result<Row, Refusal>
+        ensures { result ≡ result_map_both (λ _. record { cost = cost; barred = barred }) (λ e. e) (untried operator cost (bench self.now)) }
     {
-        if self.step.is_some() {
-            return Some(Refusal::StepUnderWay);
-        }
-        if operator >= self.rows.len() {
-            return Some(Refusal::NoSuch);
-        }
-        if cost > 65535 {
-            return Some(Refusal::CostTooHigh);
-        }
-        None
+        self.idle()?;
+        self.row(operator)?;
+        let cost = fitting(cost)?;
+        Ok(Row { cost, barred })
     }
 
     // Lends the session with one row's cost and bar changed, until the trial ends.
     pub fn trial(&mut self, operator: usize, cost: u32, barred: bool) -> Trial<'_>
         ensures lent { result.session.ghost_name ≡ self.entry.ghost_name }
         ensures back { ended result ≡ bench self.old }
-        ensures refusal { result.refusal ≡ untried operator cost (bench self.old) }
-        ensures during { bench result.session.now ≡ trying result.refusal operator cost barred (bench self.old) }
+        ensures verdict { result.verdict ≡ untried operator cost (bench self.old) }
+        ensures during { bench result.session.now ≡ trying result.verdict operator cost barred (bench self.old) }
     {
         let old = self.rows.at(operator);
-        if let Some(refusal) = self.untried(operator, cost) {
-            return Trial {
-                session: self,
-                operator,
-                old,
-                refusal: Some(refusal),
-            };
-        }
-        let row = Row {
-            cost: cost as u16,
-            barred,
-        };
-        self.rows.put(operator, row);
+        let tried = self.tried(operator, cost, barred);
+        self.rows.put(operator, tried.unwrap_or(old));
+        let verdict = tried.map(|_| ());
         Trial {
             session: self,
             operator,
             old,
-            refusal: None,
+            verdict,
         }
     }
 
     // A trial that ends at once: whether it is taken.
     pub fn try_row(&mut self, operator: usize, cost: u32, barred: bool) -> Result<(), Refusal>
-        ensures answer { result ≡ said (tried operator cost (bench self.old)) }
+        ensures answer { result ≡ untried operator cost (bench self.old) }
         ensures same { bench self.new ≡ bench self.old }
     {
-        let trial = self.trial(operator, cost, barred);
-        if let Some(refusal) = trial.refusal() {
-            return Err(refusal);
-        }
-        Ok(())
+        self.trial(operator, cost, barred).verdict()
     }
 }

@@ -7,4 +7,4 @@ use Rattle.session.specs.Checks.{Runs, cost_in}
 use Rattle.session.proofs.session.Session.follow.Given as goal
 
 abbrev pub invariant-loop-i : goal.invariant-loop-i
-invariant-loop-i l = Runs (bench l.self) (take l.i l.steps) l.values × (l.sum ≡ held (cost (cost_in (bench l.self)) (take l.i l.steps)))
+invariant-loop-i l = Runs (bench l.self) (take l.i-counter l.steps) l.values × (l.sum ≡ held (cost (cost_in (bench l.self)) (take l.i-counter l.steps)))
