@@ -6,14 +6,13 @@ use Rattle.sas.specs.Model.{Model, Rules}
 use Rattle.estimators.specs.Bounds.{Bounds}
 use Rattle.estimators.specs.Laws.{EstimatorLaws}
 use Rattle.estimators.specs.Soundness.{Fair, FirstOvercharged, Sound, Unbarred, price}
-use Rattle.estimators.specs.declared.estimator.Height.{Height}
 use Rattle.estimators.proofs.Bounded.{bounded}
 
 module _
     {S : Type 0}
     {suits : S → Model → Type 0}
     {shares : S → ℕ → ℕ}
-    {heights : S → ℕ → Height}
+    {heights : S → ℕ → Option ℕ}
     (laws : EstimatorLaws suits shares heights)
     (e : S)
     (m : Model)

@@ -3,7 +3,7 @@ ghost use Rattle.std.specs.Prelude.{◌≡◌, IfOk};
 ghost use Rattle.piles.specs.Toll.{toll_heights, toll_lawful, toll_shares, toll_suits};
 ghost use Rattle.tasks.specs.View.{model_of};
 
-use estimators::{Estimator, Height, K};
+use estimators::{Estimator, K};
 use states::{operators, same, state_count};
 use std::alloc::{AllocError, Global};
 use tasks::Task;
@@ -44,11 +44,7 @@ impl Estimator for Toll {
         }
     }
 
-    fn height(&self, rank: usize) -> Height {
-        if rank < state_count(&self.own) {
-            Height::At(0)
-        } else {
-            Height::Dead
-        }
+    fn height(&self, rank: usize) -> Option<u64> {
+        (rank < state_count(&self.own)).then_some(0)
     }
 }
