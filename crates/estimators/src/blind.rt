@@ -5,20 +5,20 @@ ghost use Rattle.tasks.specs.View.{model_of};
 
 use crate::estimator::Estimator;
 use states::{same, state_count};
-use std::alloc::{AllocError, Global};
+use std::alloc::AllocError;
 use tasks::Task;
 
 // Every share and every height is 0.
 #[derive(Drop)]
 pub struct Blind {
-    own: Task,
+    pub own: Task,
 }
 
 impl Blind {
-    pub fn new(heap: Global, task: &Task) -> Result<Blind, AllocError>
+    pub fn new(task: &Task) -> Result<Blind, AllocError>
         ensures { IfOk result (λ b. model_of b.own ≡ model_of task.now) }
     {
-        let own = task.copied(heap)?;
+        let own = task.clone()?;
         Ok(Blind { own })
     }
 }

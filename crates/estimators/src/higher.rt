@@ -7,6 +7,7 @@ use crate::estimator::Estimator;
 use tasks::Task;
 
 // For the tasks that both are for: the greater share and the greater height; dead in either is dead.
+// A struct beside SumOf: one that is generic over how it joins would hold a marker, which each caller would write too.
 #[derive(Drop)]
 pub struct HigherOf<X, Y> {
     pub first: X,
@@ -27,9 +28,7 @@ impl<X: Estimator, Y: Estimator> Estimator for HigherOf<X, Y> {
     }
 
     fn share(&self, operator: usize) -> u64 {
-        let first = self.first.share(operator);
-        let second = self.second.share(operator);
-        first.max(second)
+        self.first.share(operator).max(self.second.share(operator))
     }
 
     fn height(&self, rank: usize) -> Option<u64> {
