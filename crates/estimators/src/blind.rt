@@ -3,22 +3,22 @@ ghost use Rattle.std.specs.Prelude.{◌≡◌, IfOk};
 ghost use Rattle.estimators.specs.Blind.{blind_heights, blind_lawful, blind_suits};
 ghost use Rattle.tasks.specs.View.{model_of};
 
-use crate::estimator::{Estimator, Height};
+use crate::estimator::Estimator;
 use states::{same, state_count};
-use std::alloc::{AllocError, Global};
+use std::alloc::AllocError;
 use tasks::Task;
 
 // Every share and every height is 0.
 #[derive(Drop)]
 pub struct Blind {
-    own: Task,
+    pub own: Task,
 }
 
 impl Blind {
-    pub fn new(heap: Global, task: &Task) -> Result<Blind, AllocError>
+    pub fn new(task: &Task) -> Result<Blind, AllocError>
         ensures { IfOk result (λ b. model_of b.own ≡ model_of task.now) }
     {
-        let own = task.copied(heap)?;
+        let own = task.clone()?;
         Ok(Blind { own })
     }
 }
@@ -40,11 +40,7 @@ impl Estimator for Blind {
         0
     }
 
-    fn height(&self, rank: usize) -> Height {
-        if rank < state_count(&self.own) {
-            Height::At(0)
-        } else {
-            Height::Dead
-        }
+    fn height(&self, rank: usize) -> Option<u64> {
+        (rank < state_count(&self.own)).then_some(0)
     }
 }

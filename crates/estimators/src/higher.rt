@@ -3,10 +3,11 @@ ghost use Rattle.std.specs.Prelude.{max};
 ghost use Rattle.estimators.specs.Heights.{merged, max_joins};
 ghost use Rattle.estimators.specs.Layers.{layered};
 
-use crate::estimator::{Estimator, Height};
+use crate::estimator::Estimator;
 use tasks::Task;
 
 // For the tasks that both are for: the greater share and the greater height; dead in either is dead.
+// A struct beside SumOf: one that is generic over how it joins would hold a marker, which each caller would write too.
 #[derive(Drop)]
 pub struct HigherOf<X, Y> {
     pub first: X,
@@ -27,15 +28,11 @@ impl<X: Estimator, Y: Estimator> Estimator for HigherOf<X, Y> {
     }
 
     fn share(&self, operator: usize) -> u64 {
-        let first = self.first.share(operator);
-        let second = self.second.share(operator);
-        first.max(second)
+        self.first.share(operator).max(self.second.share(operator))
     }
 
-    fn height(&self, rank: usize) -> Height {
-        match (self.first.height(rank), self.second.height(rank)) {
-            (Height::At(x), Height::At(y)) => Height::At(x.max(y)),
-            (_, _) => Height::Dead,
-        }
+    fn height(&self, rank: usize) -> Option<u64> {
+        let heights = self.first.height(rank).zip(self.second.height(rank));
+        heights.map(|(x, y)| x.max(y))
     }
 }

@@ -2,10 +2,11 @@
 ghost use Rattle.estimators.specs.Heights.{capped, capped_joins, merged};
 ghost use Rattle.estimators.specs.Layers.{layered};
 
-use crate::estimator::{Estimator, Height, K};
+use crate::estimator::{Estimator, K};
 use tasks::Task;
 
 // For the tasks that both are for: the sum of the shares and of the heights, each held at K; dead in either is dead.
+// A struct beside HigherOf: one that is generic over how it joins would hold a marker, which each caller would write too.
 #[derive(Drop)]
 pub struct SumOf<X, Y> {
     pub first: X,
@@ -26,15 +27,11 @@ impl<X: Estimator, Y: Estimator> Estimator for SumOf<X, Y> {
     }
 
     fn share(&self, operator: usize) -> u64 {
-        let first = self.first.share(operator);
-        let second = self.second.share(operator);
-        (first + second).min(K)
+        (self.first.share(operator) + self.second.share(operator)).min(K)
     }
 
-    fn height(&self, rank: usize) -> Height {
-        match (self.first.height(rank), self.second.height(rank)) {
-            (Height::At(x), Height::At(y)) => Height::At((x + y).min(K)),
-            (_, _) => Height::Dead,
-        }
+    fn height(&self, rank: usize) -> Option<u64> {
+        let heights = self.first.height(rank).zip(self.second.height(rank));
+        heights.map(|(x, y)| (x + y).min(K))
     }
 }

@@ -2,8 +2,9 @@
 #![tactic(auto)]
 
 use crate::toll::Toll;
-use anyhow::anyhow;
-use estimators::{Blind, Estimator, Height, HigherOf, SumOf, first_overcharged, is_sound};
+use anyhow::ensure;
+use estimators::{Blind, Estimator, HigherOf, SumOf, first_overcharged, is_sound};
+use sas::Row;
 use std::alloc::{AllocError, Global};
 use std::io;
 use tasks::{Card, Task};
@@ -15,8 +16,8 @@ const SAMPLE: &[u8] =
 
 fn tell_height<E: Estimator>(rt: &HostRuntime, pile: &E, rank: usize) -> io::Result<()> {
     match pile.height(rank) {
-        Height::Dead => println!(rt; "rank {rank}: dead"),
-        Height::At(height) => println!(rt; "rank {rank}: height {height}"),
+        Some(height) => println!(rt; "rank {rank}: height {height}"),
+        None => println!(rt; "rank {rank}: dead"),
     }
 }
 
@@ -27,25 +28,35 @@ fn tell_answers<E: Estimator>(rt: &HostRuntime, pile: &E, task: &Task) -> io::Re
         let share = pile.share(operator);
         println!(rt; "operator {operator}: share {share}")?;
     }
-    tell_height(rt, pile, 0)?;
-    tell_height(rt, pile, 7)?;
-    tell_height(rt, pile, 8)
+    for rank in [0usize, 7, 8] {
+        tell_height(rt, pile, rank)?;
+    }
+    Ok(())
 }
 
 fn tell_soundness<E: Estimator>(
     rt: &HostRuntime,
     pile: &E,
     task: &Task,
-    costs: &[u16],
-    barred: &[bool],
+    rows: &[Row],
 ) -> io::Result<()> {
-    if is_sound(pile, task, costs, barred) {
+    if is_sound(pile, task, rows) {
         return println!(rt; "sound");
     }
-    match first_overcharged(pile, costs, barred) {
+    match first_overcharged(pile, rows) {
         Some(operator) => println!(rt; "not sound, operator {operator}"),
         None => println!(rt; "not sound, not for this task"),
     }
+}
+
+// The rows of operators at these costs, one of which may be barred.
+fn rows_at(heap: Global, costs: &[u16], bar: Option<usize>) -> Result<Vec<Row>, AllocError> {
+    let numbered = costs.iter().enumerate();
+    let rows = numbered.map(|(operator, cost)| Row {
+        cost: *cost,
+        barred: Some(operator) == bar,
+    });
+    rows.collect(heap)
 }
 
 // At the card's costs, with and without a bar, and at other costs.
@@ -54,25 +65,27 @@ fn tell_costs<E: Estimator>(
     pile: &E,
     task: &Task,
     costs: &[u16],
-) -> io::Result<()> {
-    tell_soundness(rt, pile, task, costs, &[false; 5])?;
-    tell_soundness(rt, pile, task, costs, &[false, false, false, true, false])?;
-    tell_soundness(rt, pile, task, &[2, 1, 1, 1, 1], &[false; 5])?;
-    tell_soundness(rt, pile, task, &[2; 5], &[false; 5])
+) -> anyhow::Result<()> {
+    let heap = rt.alloc();
+    tell_soundness(rt, pile, task, &rows_at(heap, costs, None)?)?;
+    tell_soundness(rt, pile, task, &rows_at(heap, costs, Some(3))?)?;
+    tell_soundness(rt, pile, task, &rows_at(heap, &[2, 1, 1, 1, 1], None)?)?;
+    tell_soundness(rt, pile, task, &rows_at(heap, &[2; 5], None)?)?;
+    Ok(())
 }
 
 fn tell_other<E: Estimator>(rt: &HostRuntime, pile: &E) -> anyhow::Result<()> {
     let other = Task::smallest(rt.alloc())?;
     let is_for = pile.is_for(&other);
     println!(rt; "for another task: {is_for}")?;
-    tell_soundness(rt, pile, &other, &[2; 5], &[false; 5])?;
+    tell_soundness(rt, pile, &other, &rows_at(rt.alloc(), &[2; 5], None)?)?;
     Ok(())
 }
 
 // A sum that is held at K.
 fn tell_heavy(rt: &HostRuntime, task: &Task) -> anyhow::Result<()> {
-    let first = Toll::new(rt.alloc(), task, 1)?;
-    let second = Toll::new(rt.alloc(), task, u64::MAX)?;
+    let first = Toll::new(task, 1)?;
+    let second = Toll::new(task, u64::MAX)?;
     let share = SumOf { first, second }.share(0);
     println!(rt; "heavy: share {share}")?;
     Ok(())
@@ -84,26 +97,26 @@ type Middle = SumOf<Toll, Lower>;
 
 type Pile = HigherOf<Middle, Blind>;
 
-fn lower(heap: Global, task: &Task) -> Result<Lower, AllocError> {
-    let first = Blind::new(heap, task)?;
-    let second = Toll::new(heap, task, 1)?;
+fn lower(task: &Task) -> Result<Lower, AllocError> {
+    let first = Blind::new(task)?;
+    let second = Toll::new(task, 1)?;
     Ok(HigherOf { first, second })
 }
 
-fn middle(heap: Global, task: &Task) -> Result<Middle, AllocError> {
-    let first = Toll::new(heap, task, 1)?;
-    let second = lower(heap, task)?;
+fn middle(task: &Task) -> Result<Middle, AllocError> {
+    let first = Toll::new(task, 1)?;
+    let second = lower(task)?;
     Ok(SumOf { first, second })
 }
 
-fn pile_over(heap: Global, task: &Task) -> Result<Pile, AllocError> {
-    let first = middle(heap, task)?;
-    let second = Blind::new(heap, task)?;
+fn pile_over(task: &Task) -> Result<Pile, AllocError> {
+    let first = middle(task)?;
+    let second = Blind::new(task)?;
     Ok(HigherOf { first, second })
 }
 
 fn tell_pile(rt: &HostRuntime, task: &Task, costs: &[u16]) -> anyhow::Result<()> {
-    let pile = pile_over(rt.alloc(), task)?;
+    let pile = pile_over(task)?;
     tell_answers(rt, &pile, task)?;
     tell_costs(rt, &pile, task, costs)?;
     tell_other(rt, &pile)
@@ -112,9 +125,7 @@ fn tell_pile(rt: &HostRuntime, task: &Task, costs: &[u16]) -> anyhow::Result<()>
 fn run(rt: &HostRuntime) -> anyhow::Result<()> {
     let heap = rt.alloc();
     let mut card = Card::built_in(heap)?;
-    if card.read(heap, SAMPLE).is_err() {
-        return Err(anyhow!("the sample is not read"));
-    }
+    ensure!(card.read(heap, SAMPLE).is_ok(), "the sample is not read");
     let costs = card.costs(heap)?;
     tell_pile(rt, card.task(), costs.as_slice())?;
     tell_heavy(rt, card.task())

@@ -3,23 +3,23 @@ ghost use Rattle.std.specs.Prelude.{◌≡◌, IfOk};
 ghost use Rattle.piles.specs.Toll.{toll_heights, toll_lawful, toll_shares, toll_suits};
 ghost use Rattle.tasks.specs.View.{model_of};
 
-use estimators::{Estimator, Height, K};
-use states::{operators, same, state_count};
-use std::alloc::{AllocError, Global};
+use estimators::{Blind, Estimator, K};
+use states::operators;
+use std::alloc::AllocError;
 use tasks::Task;
 
 #[derive(Drop)]
 pub struct Toll {
-    own: Task,
+    blind: Blind,
     each: u64,
 }
 
 impl Toll {
-    pub fn new(heap: Global, task: &Task, each: u64) -> Result<Toll, AllocError>
-        ensures { IfOk result (λ t. (model_of t.own ≡ model_of task.now) × (t.each ≡ each)) }
+    pub fn new(task: &Task, each: u64) -> Result<Toll, AllocError>
+        ensures { IfOk result (λ t. (model_of t.blind.own ≡ model_of task.now) × (t.each ≡ each)) }
     {
-        let own = task.copied(heap)?;
-        Ok(Toll { own, each })
+        let blind = Blind::new(task)?;
+        Ok(Toll { blind, each })
     }
 }
 
@@ -33,22 +33,18 @@ impl Estimator for Toll {
     ghost lawful = { toll_lawful };
 
     fn is_for(&self, task: &Task) -> bool {
-        same(&self.own, task)
+        self.blind.is_for(task)
     }
 
     fn share(&self, operator: usize) -> u64 {
-        if operator < operators(&self.own) {
+        if operator < operators(&self.blind.own) {
             self.each.min(K)
         } else {
             0
         }
     }
 
-    fn height(&self, rank: usize) -> Height {
-        if rank < state_count(&self.own) {
-            Height::At(0)
-        } else {
-            Height::Dead
-        }
+    fn height(&self, rank: usize) -> Option<u64> {
+        self.blind.height(rank)
     }
 }

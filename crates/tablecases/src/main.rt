@@ -2,7 +2,7 @@
 #![tactic(auto)]
 
 use anyhow::anyhow;
-use estimators::{Estimator, Height, HigherOf, SumOf};
+use estimators::{Estimator, HigherOf, SumOf};
 use heap::Heap;
 use keys::Distance;
 use lists::WaitingList;
@@ -101,8 +101,8 @@ fn tell_height<E: Estimator>(
     rank: usize,
 ) -> anyhow::Result<()> {
     match pile.height(rank) {
-        Height::Dead => println!(rt; "{case}, rank {rank}: dead")?,
-        Height::At(height) => println!(rt; "{case}, rank {rank}: {height}")?,
+        Some(height) => println!(rt; "{case}, rank {rank}: {height}")?,
+        None => println!(rt; "{case}, rank {rank}: dead")?,
     }
     Ok(())
 }

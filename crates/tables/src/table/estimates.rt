@@ -4,7 +4,7 @@ ghost use Rattle.tables.specs.Tables.{table_heights, table_shares, table_suits};
 
 use super::Table;
 use crate::look::MARK;
-use estimators::{Estimator, Height};
+use estimators::Estimator;
 use states::{same, state_count};
 use tasks::Task;
 
@@ -29,15 +29,11 @@ impl<'a> Estimator for Table<'a> {
         }
     }
 
-    fn height(&self, rank: usize) -> Height {
+    fn height(&self, rank: usize) -> Option<u64> {
         if rank >= state_count(&self.own) {
-            return Height::Dead;
+            return None;
         }
         let entry = self.entries[self.projection.of(rank)];
-        if entry == MARK {
-            Height::Dead
-        } else {
-            Height::At(entry)
-        }
+        if entry == MARK { None } else { Some(entry) }
     }
 }
