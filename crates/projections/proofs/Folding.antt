@@ -5,7 +5,7 @@ use Rattle.sas.specs.States.{State}
 use Rattle.sas.proofs.Digits.{digit_is}
 use Rattle.projections.specs.Parts.{folded, scales}
 use Rattle.projections.specs.Projection.{only, place}
-use Rattle.projections.proofs.Laying.{scale_at}
+use Rattle.projections.proofs.Scales.{scale_at}
 use Rattle.projections.proofs.Only.{get_or_only, only_from}
 
 sum_same : (f g : ℕ → ℕ) (n : ℕ) → ((v : ℕ) → v < n → f v ≡ g v) → sum f n ≡ sum g n

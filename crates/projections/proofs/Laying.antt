@@ -1,64 +1,92 @@
--- The parts of a projection: its coefficients, and the task that it holds.
-use Rattle.std.proofs.Common.{◌≡◌, ℕ, zero, suc, ◌*◌, ◌<◌, ◌≤◌, Bool, List, [], ◌∷◌, map, length, get_or, sym, refl, ap, ◌∙◌, subst, mul_assoc, mul-pos, one-mul, mul-one, arith}
+-- One turn of the loop that keeps the variables of a pattern.
+use Rattle.std.proofs.Common.{◌≡◌, ℕ, ◌+◌, ◌*◌, ◌<◌, ◌≤◌, Bool, true, false, List, [], ◌∷◌, ◌++◌, length, get_or, take, sym, refl, ap, ◌∙◌, subst, append-nil, arith}
 use Rattle.std.specs.List.{AllByRecursion}
-use Rattle.std.proofs.ByRecursion.{All-get_or}
-use Rattle.sas.specs.Model.{Action, Model, Rules, product}
+use Rattle.std.proofs.ByRecursion.{All-get_or, All-take}
+use Rattle.std.proofs.lemmas.List.{map_push, take_all}
+use Rattle.sas.specs.Model.{product}
 use Rattle.sas.specs.Ranks.{coefficient}
-use Rattle.sas.specs.declared.Fact.{Fact}
-use Rattle.sas.proofs.Products.{positive}
-use Rattle.projections.specs.Parts.{Laid, scales, scales_from}
-use Rattle.projections.specs.Projection.{kept_facts, only, place, projected, projected_action}
-use Rattle.projections.proofs.Only.{length_only, all_only, product_only}
+use Rattle.sas.proofs.Digits.{coefficient_below, coefficient_more, coefficient_pos as all_pos}
+use Rattle.sas.proofs.Products.{product_pos}
+use Rattle.projections.specs.Parts.{axis_coefficients, axis_places, axis_sizes, scales}
+use Rattle.projections.specs.Projection.{only}
+use Rattle.projections.specs.declared.axis.Axis.{Axis}
+use Rattle.projections.proofs.Only.{only_more, product_only}
+use Rattle.projections.proofs.Scales.{product_push, scale_at, scales_long, scales_push, sizes_positive}
+use Rattle.projections.proofs.Digits.{axes_positive}
 
-length_scales : (c : ℕ) (zs : List ℕ) → length (scales_from c zs) ≡ length zs
-length_scales c [] = refl
-length_scales c (z ∷ zs) = ap suc (length_scales (c * z) zs)
+-- the kept variables so far, the next of which has the coefficient c in the projected task, and the next of all p in the whole one
+pub record KeptSoFar (keep : ℕ → Bool) (sizes : List ℕ) (axes : List Axis) (c p i : ℕ) : Type 0 where
+  pub sizes_are : axis_sizes axes ≡ only keep (take i sizes)
+  pub places_are : axis_places axes ≡ only keep (take i (scales sizes))
+  pub scaled : axis_coefficients axes ≡ scales (axis_sizes axes)
+  pub next : c ≡ product (axis_sizes axes)
+  pub place : p ≡ coefficient sizes i
 
-scale_from : (c : ℕ) (zs : List ℕ) (v : ℕ) → v < length zs → get_or (scales_from c zs) v 0 ≡ c * coefficient zs v
-scale_from c [] v l = absurd (omega arith)
-scale_from c (z ∷ zs) zero l = sym (mul-one c)
-scale_from c (z ∷ zs) (suc v) l = scale_from (c * z) zs v (omega arith) ∙ mul_assoc c z (coefficient zs v)
+module _ (keep : ℕ → Bool) (sizes : List ℕ) (sized : AllByRecursion (λ z. (2 ≤ z) × (z ≤ 16)) sizes) (few : product sizes ≤ 1048576) where
+  pos : AllByRecursion (λ z. 0 < z) sizes
+  pos = sizes_positive sizes sized
 
--- the coefficients, one by one
-pub scale_at : (zs : List ℕ) (v : ℕ) → v < length zs → get_or (scales zs) v 0 ≡ coefficient zs v
-scale_at zs v l = scale_from 1 zs v l ∙ one-mul (coefficient zs v)
+  pub kept_none : KeptSoFar keep sizes [] 1 1 0
+  kept_none = record { sizes_are = refl; places_are = refl; scaled = refl; next = refl; place = refl }
 
-scales_pos : (c : ℕ) (zs : List ℕ) → 0 < c → AllByRecursion (λ z. 0 < z) zs → AllByRecursion (λ k. 0 < k) (scales_from c zs)
-scales_pos c [] p h = tt
-scales_pos c (z ∷ zs) p h = (p, scales_pos (c * z) zs (mul-pos p h.0) h.1)
+  module _ (axes : List Axis) (c p i : ℕ) (h : KeptSoFar keep sizes axes c p i) where
+    module _ (l : i < length sizes) where
+      -- the coefficient behind the variable is that of the next
+      place_next : (z : ℕ) → z ≡ get_or sizes i 0 → p * z ≡ coefficient sizes (i + 1)
+      place_next z e = ap (λ n. n * z) h.place ∙ ap (λ n. coefficient sizes i * n) e ∙ sym (coefficient_more sizes i l)
 
-module _ (keep : ℕ → Bool) (m : Model) (r : Rules m) where
-  pub kept_positive : AllByRecursion (λ z. 0 < z) (only keep m.sizes)
-  kept_positive = all_only (λ z. 0 < z) keep m.sizes (positive m r)
+      pub place_few : (z : ℕ) → z ≡ get_or sizes i 0 → p * z ≤ 1048576
+      place_few z e = omega (arith, place_next z e, coefficient_below sizes (i + 1) pos, few)
 
-  pub kept_few : product (only keep m.sizes) ≤ 1048576
-  kept_few = omega (arith, product_only keep m.sizes (positive m r), r.few_states)
+      -- a variable that is not kept
+      pub kept_passed : (b : Bool) → b ≡ keep i → b ≡ false → (axes' : List Axis) → axes' ≡ axes → (c' z : ℕ) → c' ≡ c → z ≡ get_or sizes i 0 → KeptSoFar keep sizes axes' c' (p * z) (i + 1)
+      kept_passed b k off axes' a c' z e f =
+          let left = sym k ∙ off in
+          let there : i < length (scales sizes) = omega (arith, l, scales_long sizes) in
+          subst (λ w. KeptSoFar keep sizes w c' (p * z) (i + 1)) (sym a) (record {
+            sizes_are = h.sizes_are ∙ sym (only_more keep sizes i 0 false left l ∙ append-nil (only keep (take i sizes)));
+            places_are = h.places_are ∙ sym (only_more keep (scales sizes) i 0 false left there ∙ append-nil (only keep (take i (scales sizes))));
+            scaled = h.scaled;
+            next = e ∙ h.next;
+            place = place_next z f;
+          })
 
-  even : length (only keep (scales m.sizes)) ≡ length (only keep m.sizes)
-  even = length_only keep (scales m.sizes) ∙ ap (place keep) (length_scales 1 m.sizes) ∙ sym (length_only keep m.sizes)
+      -- one that is
+      module _ (b : Bool) (k : b ≡ keep i) (here : b ≡ true) where
+        kept : keep i ≡ true
+        kept = sym k ∙ here
 
-  laid : Laid (only keep m.sizes) (scales (only keep m.sizes)) (only keep (scales m.sizes))
-  laid = record {
-    sized = all_only (λ z. (2 ≤ z) × (z ≤ 16)) keep m.sizes r.sized;
-    few = kept_few;
-    long = length_scales 1 (only keep m.sizes);
-    scaled = scale_at (only keep m.sizes);
-    even = even;
-    placed = λ v l. All-get_or (λ k. 0 < k) (only keep (scales m.sizes)) v 0 (omega (arith, l, even)) (all_only (λ k. 0 < k) keep (scales m.sizes) (scales_pos 1 m.sizes (omega arith) (positive m r)));
-  }
+        pub size_there : (2 ≤ get_or sizes i 0) × (get_or sizes i 0 ≤ 16)
+        size_there = All-get_or (λ z. (2 ≤ z) × (z ≤ 16)) sizes i 0 l sized
 
-  pub laid_from : (sizes coefficients places : List ℕ) → sizes ≡ only keep m.sizes → coefficients ≡ scales sizes → places ≡ only keep (scales m.sizes) → Laid sizes coefficients places
-  laid_from sizes coefficients places s c p =
-      subst (λ zs. Laid zs coefficients places) (sym s)
-      (subst (λ ks. Laid (only keep m.sizes) ks places) (sym (c ∙ ap scales s)) (subst (Laid (only keep m.sizes) (scales (only keep m.sizes))) (sym p) laid))
+        pub coefficient_pos : 0 < c
+        coefficient_pos = omega (arith, h.next, product_pos (axis_sizes axes) (axes_positive axes))
 
--- the task that a projection holds, from its parts and what they were made from
-pub model_is : (keep : ℕ → Bool) (m : Model) (sizes zs : List ℕ) (goal gs : List Fact) (operators os : List Action) → sizes ≡ only keep zs → zs ≡ m.sizes → goal ≡ kept_facts keep gs → gs ≡ m.goal → operators ≡ map (projected_action keep) os → os ≡ m.operators → record { sizes = sizes; goal = goal; operators = operators } ≡ projected keep m
-unfolding projected
-model_is keep m sizes zs goal gs operators os s from-s g from-g o from-o =
-    ap (λ xs. record { sizes = xs; goal = goal; operators = operators }) (s ∙ ap (only keep) from-s)
-    ∙ ap (λ xs. record { sizes = only keep m.sizes; goal = xs; operators = operators }) (g ∙ ap (kept_facts keep) from-g)
-    ∙ ap (λ xs. record { sizes = only keep m.sizes; goal = kept_facts keep m.goal; operators = xs }) (o ∙ ap (map (projected_action keep)) from-o)
+        pub place_pos : 0 < p
+        place_pos = omega (arith, h.place, all_pos sizes i pos)
 
-pub places_are : (keep : ℕ → Bool) (sizes places slice whole zs : List ℕ) → places ≡ only keep slice → slice ≡ whole → whole ≡ scales zs → zs ≡ sizes → places ≡ only keep (scales sizes)
-places_are keep sizes places slice whole zs p s w z = p ∙ ap (only keep) (s ∙ w ∙ ap scales z)
+        pub kept_few : c * get_or sizes i 0 ≤ 1048576
+        kept_few =
+            let more = ap product (only_more keep sizes i 0 true kept l) ∙ product_push (only keep (take i sizes)) (get_or sizes i 0) in
+            omega (arith, ap (λ n. n * get_or sizes i 0) (h.next ∙ ap product h.sizes_are), more, product_only keep (take (i + 1) sizes) (All-take (λ z. 0 < z) (i + 1) sizes pos), coefficient_below sizes (i + 1) pos, few)
+
+        pub kept_pushed : (x : Axis) → x.size ≡ get_or sizes i 0 → x.coefficient ≡ c → x.place ≡ p → (pushed axes' : List Axis) → pushed ≡ axes ++ x ∷ [] → axes' ≡ pushed → (c' y z : ℕ) → c' ≡ c * y → y ≡ get_or sizes i 0 → z ≡ get_or sizes i 0 → KeptSoFar keep sizes axes' c' (p * z) (i + 1)
+        kept_pushed x size coefficient-is place-is pushed axes' push is c' y z e g f =
+            let there : i < length (scales sizes) = omega (arith, l, scales_long sizes) in
+            subst (λ w. KeptSoFar keep sizes w c' (p * z) (i + 1)) (sym (is ∙ push)) (record {
+              sizes_are = map_push (λ a. a.size) axes x ∙ ap (λ zs. zs ++ x.size ∷ []) h.sizes_are ∙ ap (λ n. only keep (take i sizes) ++ n ∷ []) size ∙ sym (only_more keep sizes i 0 true kept l);
+              places_are = map_push (λ a. a.place) axes x ∙ ap (λ ks. ks ++ x.place ∷ []) h.places_are ∙ ap (λ n. only keep (take i (scales sizes)) ++ n ∷ []) (place-is ∙ h.place ∙ sym (scale_at sizes i l)) ∙ sym (only_more keep (scales sizes) i 0 true kept there);
+              scaled = map_push (λ a. a.coefficient) axes x ∙ ap (λ ks. ks ++ x.coefficient ∷ []) h.scaled ∙ ap (λ n. scales (axis_sizes axes) ++ n ∷ []) (coefficient-is ∙ h.next) ∙ sym (scales_push (axis_sizes axes) x.size) ∙ ap scales (sym (map_push (λ a. a.size) axes x));
+              next = e ∙ ap (λ n. n * y) h.next ∙ ap (λ n. product (axis_sizes axes) * n) (g ∙ sym size) ∙ sym (product_push (axis_sizes axes) x.size) ∙ ap product (sym (map_push (λ a. a.size) axes x));
+              place = place_next z f;
+            })
+
+    module _ (past : length sizes ≤ i) where
+      pub kept_sizes : axis_sizes axes ≡ only keep sizes
+      kept_sizes = h.sizes_are ∙ ap (only keep) (take_all i sizes past)
+
+      pub kept_places : axis_places axes ≡ only keep (scales sizes)
+      kept_places = h.places_are ∙ ap (only keep) (take_all i (scales sizes) (omega (arith, scales_long sizes)))
+
+      pub all_few : product (axis_sizes axes) ≤ 1048576
+      all_few = omega (arith, ap product kept_sizes, product_only keep sizes pos, few)

@@ -7,7 +7,8 @@ pub mod Making
 pub mod Laying
 pub mod Folding
 pub mod Scales
-pub mod Turns
+pub mod Digits
+pub mod Chains
 pub mod Edges
 pub mod Fills
 pub mod Backward

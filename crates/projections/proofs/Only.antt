@@ -1,7 +1,7 @@
 -- The kept elements of a list, and the new numbers of the kept variables.
-use Rattle.std.proofs.Common.{◌≡◌, ℕ, zero, suc, ◌+◌, ◌*◌, ◌<◌, ◌≤◌, Bool, true, false, cond, List, [], ◌∷◌, length, get_or, set, sym, refl, ap, ◌∙◌, subst, mul-le-mul_right, mul-le-mul_left, one-mul, arith}
+use Rattle.std.proofs.Common.{◌≡◌, ℕ, zero, suc, ◌+◌, ◌*◌, ◌<◌, ◌≤◌, Bool, true, false, cond, List, [], ◌∷◌, ◌++◌, filter, length, get_or, take, set, sym, refl, ap, ◌∙◌, subst, mul-le-mul_right, mul-le-mul_left, one-mul, add-zero, zero-add, add-one, arith}
 use native.Mathlib.Decide.{ℕ_discrete}
-use Rattle.std.specs.List.{AllByRecursion}
+use Rattle.std.specs.List.{AllByRecursion, range_with_len}
 use Rattle.sas.specs.Model.{product}
 use Rattle.sas.specs.States.{State}
 use Rattle.projections.specs.Projection.{only, place}
@@ -172,3 +172,40 @@ only_same {X} keep other (x ∷ s) h = ap (λ r. cond (keep 0) (x ∷ r) r) (onl
 pub place_same : (keep other : ℕ → Bool) (v : ℕ) → ((w : ℕ) → keep w ≡ other w) → place keep v ≡ place other v
 place_same keep other zero h = refl
 place_same keep other (suc v) h = ap (λ p. p + cond (keep v) 1 0) (place_same keep other v h) ∙ ap (λ b. place other v + cond b 1 0) (h v)
+
+only_next : {X : Type 0} (keep : ℕ → Bool) (s : List X) (i : ℕ) (d : X) → i < length s → only keep (take (suc i) s) ≡ only keep (take i s) ++ cond (keep i) (get_or s i d ∷ []) []
+only_next keep [] i d l = absurd (omega arith)
+only_next keep (x ∷ s) zero d l = refl
+only_next {X} keep (x ∷ s) (suc i) d l = on (keep 0) (only_next (λ v. keep (suc v)) s i d (omega arith))
+  where
+    q : List X
+    q = cond (keep (suc i)) (get_or s i d ∷ []) []
+
+    r : List X
+    r = only (λ v. keep (suc v)) (take i s)
+
+    t : List X
+    t = only (λ v. keep (suc v)) (take (suc i) s)
+
+    on : (b : Bool) → t ≡ r ++ q → cond b (x ∷ t) t ≡ cond b (x ∷ r) r ++ q
+    on true e = ap (λ l. x ∷ l) e
+    on false e = e
+
+-- the kept elements, one more variable read
+pub only_more : {X : Type 0} (keep : ℕ → Bool) (s : List X) (i : ℕ) (d : X) (b : Bool) → keep i ≡ b → i < length s → only keep (take (i + 1) s) ≡ only keep (take i s) ++ cond b (get_or s i d ∷ []) []
+only_more keep s i d b e l = ap (λ n. only keep (take n s)) (add-one i) ∙ only_next keep s i d l ∙ ap (λ c. only keep (take i s) ++ cond c (get_or s i d ∷ []) []) e
+
+place_counted : (keep : ℕ → Bool) (a n : ℕ) → place keep a + length (filter keep (range_with_len a n)) ≡ place keep (a + n)
+place_counted keep a zero = omega (arith, ap (place keep) (add-zero a))
+place_counted keep a (suc n) = on (keep a) refl (place_counted keep (a + 1) n ∙ ap (place keep) (omega arith))
+  where
+    r : List ℕ
+    r = filter keep (range_with_len (a + 1) n)
+
+    on : (b : Bool) → keep a ≡ b → place keep (a + 1) + length r ≡ place keep (a + suc n) → place keep a + length (cond b (a ∷ r) r) ≡ place keep (a + suc n)
+    on true e rest = omega (arith, rest, ap (place keep) (add-one a) ∙ ap (λ c. place keep a + cond c 1 0) e)
+    on false e rest = omega (arith, rest, ap (place keep) (add-one a) ∙ ap (λ c. place keep a + cond c 1 0) e)
+
+-- the new number of a variable counts the kept ones before it
+pub place_is : (keep : ℕ → Bool) (v : ℕ) → length (filter keep (range_with_len 0 v)) ≡ place keep v
+place_is keep v = omega (arith, place_counted keep 0 v, ap (place keep) (zero-add v))

@@ -1,31 +1,13 @@
 -- What a projection keeps of its parts is one proposition, so that the truncated facts give it.
-use Rattle.std.proofs.Common.{◌≡◌, ℕ, ◌≤◌, List, map}
+use Rattle.std.proofs.Common.{ℕ, ◌≤◌, List, map}
 use mathlib.Core.Logic.{∥∥₁_elim}
-use denote.Struct.Props.{props}
 use native.Mathlib.Bridge.{le_prop}
 use Rattle.sas.specs.Model.{Action, Model, Valued}
 use Rattle.sas.proofs.Rules.{all_prop, valued_prop, distinct_prop}
-use Rattle.projections.specs.Parts.{Laid}
 use Rattle.projections.specs.Shapes.{Shaped, ShapedAction}
-
-equal_prop : (a b : ℕ) → IsProp (a ≡ b)
-equal_prop a b = hlevel props
 
 sized_prop : (z : ℕ) → IsProp ((2 ≤ z) × (z ≤ 16))
 sized_prop z a b = λ j. (le_prop a.0 b.0 j, le_prop a.1 b.1 j)
-
-laid_prop : (sizes coefficients places : List ℕ) → IsProp (Laid sizes coefficients places)
-laid_prop sizes coefficients places p q = λ i. record {
-  sized = all_prop _ sized_prop sizes p.sized q.sized i;
-  few = le_prop p.few q.few i;
-  long = equal_prop _ _ p.long q.long i;
-  scaled = λ v l. equal_prop _ _ (p.scaled v l) (q.scaled v l) i;
-  even = equal_prop _ _ p.even q.even i;
-  placed = λ v l. le_prop (p.placed v l) (q.placed v l) i;
-}
-
-pub laid : (sizes coefficients places : List ℕ) → ∥ Laid sizes coefficients places ∥₁ → Laid sizes coefficients places
-laid sizes coefficients places h = ∥∥₁_elim h (laid_prop sizes coefficients places) (λ r. r)
 
 action_prop : (sizes : List ℕ) (a : Action) → IsProp (ShapedAction sizes a)
 action_prop sizes a p q = λ i. record {

@@ -1,5 +1,6 @@
 -- The way back over an operator: the ranks from which it leads to a given one.
-use Rattle.std.specs.Prelude.{◌≡◌, ℕ, ◌+◌, ◌*◌, ◌/◌, ◌%◌, ◌<◌, Bool, false, cond, ◌||◌, List, [], ◌∷◌, ◌==◌, slice_index}
+use Rattle.std.specs.Prelude.{◌≡◌, ℕ, ◌+◌, ◌*◌, ◌/◌, ◌%◌, ◌<◌, Bool, cond, List, [], ◌∷◌, ◌==◌, slice_index}
+use Rattle.std.specs.List.{list_any}
 use Rattle.sas.specs.Model.{Model}
 use Rattle.sas.specs.Ranks.{coefficient}
 use Rattle.sas.specs.States.{operator}
@@ -9,8 +10,7 @@ use Rattle.projections.specs.Projection.{Edge}
 
 -- whether a precondition speaks of v
 abbrev pub asks : List Precondition → ℕ → Bool
-asks [] v = false
-asks (p ∷ ps) v = p.variable == v || asks ps v
+asks ps v = list_any (λ p. p.variable == v) ps
 
 -- the variables that are set without being asked for
 abbrev pub unasked : List Precondition → List Fact → List ℕ

@@ -1,18 +1,28 @@
 -- The task that a projection holds, from its parts; the digits of a rank, and where they stand.
-use Rattle.std.specs.Prelude.{◌≡◌, ℕ, ◌*◌, ◌/◌, ◌%◌, ◌<◌, ◌≤◌, List, [], ◌∷◌, map, length, vec_items, Vec, slice_index}
+use Rattle.std.specs.Prelude.{ℕ, ◌*◌, ◌/◌, ◌%◌, List, [], ◌∷◌, map, length, vec_items, Vec, slice_index}
 use Rattle.std.specs.declared.alloc.Global.{Global}
-use Rattle.std.specs.List.{AllByRecursion}
-use Rattle.sas.specs.Model.{Action, Model, product}
+use Rattle.sas.specs.Model.{Action, Model}
 use Rattle.sas.specs.Ranks.{sum, coefficient}
 use Rattle.sas.specs.declared.Fact.{Fact}
 use Rattle.projections.specs.Asked.{as_precondition}
+use Rattle.projections.specs.declared.axis.Axis.{Axis}
 use Rattle.projections.specs.declared.moves.Move.{Move}
 
 abbrev pub action : Move → Action
 action a = record { preconditions = map as_precondition (vec_items a.asked); effects = vec_items a.effects }
 
-abbrev pub model : Vec ℕ Global → Vec Fact Global → Vec Move Global → Model
-model sizes goal moves = record { sizes = vec_items sizes; goal = vec_items goal; operators = map action (vec_items moves) }
+-- how many values each of some variables has, and their coefficients in the projected task and in the whole one
+abbrev pub axis_sizes : List Axis → List ℕ
+axis_sizes axes = map (λ a. a.size) axes
+
+abbrev pub axis_coefficients : List Axis → List ℕ
+axis_coefficients axes = map (λ a. a.coefficient) axes
+
+abbrev pub axis_places : List Axis → List ℕ
+axis_places axes = map (λ a. a.place) axes
+
+abbrev pub model : List Axis → Vec Fact Global → Vec Move Global → Model
+model axes goal moves = record { sizes = axis_sizes axes; goal = vec_items goal; operators = map action (vec_items moves) }
 
 -- the coefficients of all variables, the first of which has the coefficient c
 abbrev pub scales_from : ℕ → List ℕ → List ℕ
@@ -29,12 +39,3 @@ digit sizes v k = k / coefficient sizes v % slice_index sizes v
 -- the rank of what is left of the state of rank k, where the kept variables have these coefficients in the whole task
 abbrev pub folded : List ℕ → List ℕ → ℕ → ℕ
 folded places sizes k = sum (λ v. k / slice_index places v % slice_index sizes v * coefficient sizes v) (length sizes)
-
--- sizes with their coefficients, and with those of the whole task
-pub record Laid (sizes coefficients places : List ℕ) : Type 0 where
-  pub sized : AllByRecursion (λ z. (2 ≤ z) × (z ≤ 16)) sizes
-  pub few : product sizes ≤ 1048576
-  pub long : length coefficients ≡ length sizes
-  pub scaled : (v : ℕ) → v < length sizes → slice_index coefficients v ≡ coefficient sizes v
-  pub even : length places ≡ length sizes
-  pub placed : (v : ℕ) → v < length sizes → 0 < slice_index places v

@@ -1,5 +1,6 @@
 -- A task seen through some of its variables: the others are struck out, and these are numbered anew in their order.
-use Rattle.std.specs.Prelude.{ℕ, zero, suc, ◌+◌, ◌<◌, Bool, false, cond, ◌||◌, List, [], ◌∷◌, map, length, ◌==◌}
+use Rattle.std.specs.Prelude.{ℕ, zero, suc, ◌+◌, ◌<◌, Bool, cond, List, [], ◌∷◌, map, length, ◌==◌}
+use Rattle.std.specs.List.{list_any}
 use Rattle.sas.specs.Model.{Action, Model}
 use Rattle.sas.specs.Ranks.{StepRank}
 use Rattle.sas.specs.States.{operator}
@@ -8,8 +9,7 @@ use Rattle.sas.specs.declared.Precondition.{Precondition}
 
 -- whether a pattern, given as a list of variables, has v
 abbrev pub among : List ℕ → ℕ → Bool
-among [] v = false
-among (p ∷ ps) v = p == v || among ps v
+among ps v = list_any (λ p. p == v) ps
 
 -- how many of the variables before v are kept: the new number of v, where v is kept
 abbrev pub place : (ℕ → Bool) → ℕ → ℕ

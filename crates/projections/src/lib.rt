@@ -1,8 +1,10 @@
 // A task seen through some of its variables, by the ranks of its states.
 #![tactic(auto)]
 
-mod digits;
+pub mod axes;
+pub mod axis;
 pub mod moves;
+mod pattern;
 pub mod projection;
 
 pub use projection::Projection;

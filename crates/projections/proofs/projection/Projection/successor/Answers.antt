@@ -1,67 +1,54 @@
 -- The digits that are asked for decide, and the effects' digits are written.
-use Rattle.std.proofs.Common.{◌≡◌, ◌<◌, length, Decides, sym, ap, ◌∙◌, arith}
-use Rattle.std.specs.List.{AllByRecursion}
+use Rattle.std.proofs.Common.{◌≡◌, ◌<◌, length, Decides, sym, ◌∙◌, subst, arith}
+use Rattle.std.specs.List.{All, AllByRecursion}
 use Rattle.std.proofs.lemmas.Bool.{false≢true}
-use Rattle.sas.specs.Model.{Valued, product}
+use Rattle.sas.specs.Model.{Valued}
 use Rattle.sas.specs.Ranks as Ranks
 use Rattle.projections.specs.Parts.{digit}
-use Rattle.projections.specs.View.{places_of, view_of}
-use Rattle.projections.proofs.Edges.{edge_inside, no_edge, some_edge, within}
-use Rattle.projections.proofs.Held.{across, asked_values, effect_values, held_laid, held_shaped, read_is, read_number, remains_there}
+use Rattle.projections.specs.View.{view_of}
+use Rattle.projections.proofs.Edges.{edge_inside, no_edge, some_edge}
+use Rattle.projections.proofs.Held.{asked_values, effect_values, gone_is, inside, read_is, read_number, remains_is}
 use Rattle.projections.proofs.Origins.{Writes}
 use Rattle.projections.proofs.projection.Projection.successor.Goals as goal
-use Rattle.projections.proofs.projection.Projection.successor.Goals.{then-rank-states-via-then-rank-states, then-rank-states-via-else-rank-states+then-not-remains}
+use Rattle.projections.proofs.projection.Projection.successor.Goals.{then-rank-states-via-then-rank-states, then-rank-states-via-else-rank-states+then-is_empty}
 
 pub returns-then-rank-states : goal.returns-then-rank-states
 returns-then-rank-states c l e = elim c.then-rank-states.branch [
   | then-rank-states-via-then-rank-states w ↦ omega (arith, edge_inside (view_of c.args.self.now) c.states.ensures.shaped c.args.operator c.args.rank l e, c.states.ensures.count, w.if-rank-states.true)
-  | then-rank-states-via-else-rank-states+then-not-remains w ↦ false≢true (sym w.if-not-remains.true ∙ w.remains.ensures.1 e.0)
+  | then-rank-states-via-else-rank-states+then-is_empty w ↦ gone_is c.args.self.now c.args.operator c.in_ok-one.one.now c.deref.result.now c.deref.ensures.value c.in_ok-one.ensures.lookup.3 w.is_empty.result w.is_empty.ensures w.if-is_empty.true e.0
 ]
-
-pub index-one-requires : goal.index-one-requires
-index-one-requires c = omega (arith, remains_there c.args.self.now c.args.operator (c.remains.ensures.0 c.if-not-remains.false), c.args.self.now.moves.ok)
 
 pub all_stand-requires : goal.all_stand-requires
 all_stand-requires c =
     let p = c.args.self.now in
-    let x = c.index-one.result.now in
-    let o = c.args.operator in
-    let there = remains_there p o (c.remains.ensures.0 c.if-not-remains.false) in
-    record {
-      laid = (places_of p, held_laid p _ _ _ c.as_slice-sizes.ensures.value c.as_slice-coefficients.ensures.value (λ i. places_of p));
-      inside = across (λ zs fs. AllByRecursion (λ f. f.variable < length zs) fs) c.as_slice-sizes.ensures.value c.as_slice.ensures.value (within _ _ (asked_values p o x there c.index-one.ensures));
-    }
+    let x = c.in_ok-one.one.now in
+    record { inside = subst (All (λ f. f.variable < length p.axes.list.items)) (sym c.deref-2.ensures.value) (inside p x.asked.items (asked_values p c.args.operator x c.deref.result.now c.deref.ensures.value c.in_ok-one.ensures.lookup.3)) }
 
 pub returns-then-not-all_stand : goal.returns-then-not-all_stand
 returns-then-not-all_stand c =
     let p = c.args.self.now in
-    let x = c.index-one.result.now in
+    let x = c.in_ok-one.one.now in
     let o = c.args.operator in
-    let there = remains_there p o (c.remains.ensures.0 c.if-not-remains.false) in
-    let d = across (λ zs fs. Decides c.all_stand.result (AllByRecursion (λ f. digit zs f.variable c.args.rank ≡ f.value) fs)) (sym c.as_slice-sizes.ensures.value) (sym c.as_slice.ensures.value) c.all_stand.ensures in
-    no_edge (view_of p) (held_shaped p) o x.asked.items x.effects.items (read_is p o x there c.index-one.ensures) (read_number p o x there c.index-one.ensures) c.args.rank (omega (arith, c.if-rank-states.false, c.states.ensures.count)) (λ h. false≢true (sym c.if-not-all_stand.true ∙ d.1 h))
+    let d = subst (λ fs. Decides c.all_stand.result (AllByRecursion (λ f. digit (view_of p).sizes f.variable c.args.rank ≡ f.value) fs)) c.deref-2.ensures.value c.all_stand.ensures in
+    no_edge (view_of p) c.states.ensures.shaped o x.asked.items x.effects.items (read_is p o x c.deref.result.now c.deref.ensures.value c.in_ok-one.ensures.lookup.3) (read_number p o x c.deref.result.now c.deref.ensures.value c.in_ok-one.ensures.lookup.3) c.args.rank (omega (arith, c.if-rank-states.false, c.states.ensures.count)) (λ h. false≢true (sym c.if-not-all_stand.true ∙ d.1 h))
 
 pub written-requires : goal.written-requires
 unfolding Ranks.states
 written-requires c =
     let p = c.args.self.now in
-    let x = c.index-one.result.now in
-    let o = c.args.operator in
-    let there = remains_there p o (c.remains.ensures.0 c.if-not-remains.false) in
     record {
-      laid = (places_of p, held_laid p _ _ _ c.as_slice-sizes.ensures.value c.as_slice-coefficients.ensures.value (λ i. places_of p));
-      valued = across (λ zs fs. AllByRecursion (λ f. Valued zs f.variable f.value) fs) c.as_slice-sizes.ensures.value c.as_slice-2.ensures.value (effect_values p o x there c.index-one.ensures);
-      below = omega (arith, c.if-rank-states.false, c.states.ensures.count, ap product c.as_slice-sizes.ensures.value);
+      valued = subst (All (λ f. Valued (view_of p).sizes f.variable f.value)) (sym c.deref-3.ensures.value) (effect_values p c.args.operator c.in_ok-one.one.now c.deref.result.now c.deref.ensures.value c.in_ok-one.ensures.lookup.3);
+      below = omega (arith, c.if-rank-states.false, c.states.ensures.count);
     }
 
 pub returns : goal.returns
 returns c =
     let p = c.args.self.now in
-    let x = c.index-one.result.now in
+    let x = c.in_ok-one.one.now in
     let o = c.args.operator in
     let k = c.args.rank in
-    let there = remains_there p o (c.remains.ensures.0 c.if-not-remains.false) in
-    let d = across (λ zs fs. Decides c.all_stand.result (AllByRecursion (λ f. digit zs f.variable k ≡ f.value) fs)) (sym c.as_slice-sizes.ensures.value) (sym c.as_slice.ensures.value) c.all_stand.ensures in
-    let made = across (Writes k c.written.result) (sym c.as_slice-sizes.ensures.value) (sym c.as_slice-2.ensures.value) c.written.ensures.value in
-    let e = some_edge (view_of p) (held_shaped p) o x.asked.items x.effects.items (read_is p o x there c.index-one.ensures) (read_number p o x there c.index-one.ensures) k c.written.result (omega (arith, c.if-rank-states.false, c.states.ensures.count)) (c.remains.ensures.0 c.if-not-remains.false) (d.0 c.if-not-all_stand.false) made in
-    (e, (edge_inside (view_of p) (held_shaped p) o k c.written.result e).1)
+    let d = subst (λ fs. Decides c.all_stand.result (AllByRecursion (λ f. digit (view_of p).sizes f.variable k ≡ f.value) fs)) c.deref-2.ensures.value c.all_stand.ensures in
+    let made = subst (Writes k c.written.result (view_of p).sizes) c.deref-3.ensures.value c.written.ensures.value in
+    let remains = remains_is p o x c.deref.result.now c.deref.ensures.value c.in_ok-one.ensures.lookup.3 c.is_empty.result c.is_empty.ensures c.if-is_empty.false in
+    let e = some_edge (view_of p) c.states.ensures.shaped o x.asked.items x.effects.items (read_is p o x c.deref.result.now c.deref.ensures.value c.in_ok-one.ensures.lookup.3) (read_number p o x c.deref.result.now c.deref.ensures.value c.in_ok-one.ensures.lookup.3) k c.written.result (omega (arith, c.if-rank-states.false, c.states.ensures.count)) remains (d.0 c.if-not-all_stand.false) made in
+    (e, (edge_inside (view_of p) c.states.ensures.shaped o k c.written.result e).1)

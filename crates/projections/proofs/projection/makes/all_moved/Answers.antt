@@ -8,7 +8,7 @@ use Rattle.projections.proofs.Making.{moved_more}
 use Rattle.projections.proofs.projection.makes.all_moved.Goals as goal
 
 pub loop-o-preserved : goal.loop-o-preserved
-loop-o-preserved c = moved_more (λ o. projected_action (among c.args.pattern.now) (Tasks.action o)) c.args.operators.now c.loop-o.o-index (vec_items c.loop-o.all) (vec_items c.push.new.self) c.in_ok-one.one c.o-item.result c.loop-o-test.true c.loop-o.invariant c.in_ok-push.ensures.items c.in_ok-one.ensures c.o-item.is
+loop-o-preserved c = moved_more (λ o. projected_action (among c.args.pattern.now) (Tasks.action o)) c.args.operators.now c.loop-o.o-index (vec_items c.loop-o.all) (vec_items c.push.new.self) c.in_ok-moved.field-0 c.o-item.result c.loop-o-test.true c.loop-o.invariant c.in_ok-push.ensures.items c.in_ok-moved.ensures c.o-item.is
 
 pub returns : goal.returns
 returns c =

@@ -1,21 +1,15 @@
--- A fact about a kept variable is added with its new number.
-use Rattle.std.proofs.Common.{vec_items, sym, ap, ◌∙◌}
-use Rattle.std.proofs.lemmas.List.{drop_all}
-use Rattle.projections.specs.Projection.{among, kept_facts}
-use Rattle.projections.proofs.Making.{add_all, kept_more, kept_none}
+-- The facts of kept variables are collected, each put anew.
+use Rattle.std.proofs.Common.{◌≡◌, IfOk, subst, rules, tests}
+use Rattle.std.proofs.lemmas.Iterator.{YieldsList-from_map, YieldsList-from_slice, items_from_collect}
+use Rattle.std.proofs.lemmas.Iterator.Consumers.{YieldsList-at, YieldsList-from_filter}
+use Rattle.projections.specs.Projection.{among, place}
+use Rattle.projections.proofs.Kept.{fact_of}
+use Rattle.projections.proofs.Making.{kept_is}
 use Rattle.projections.proofs.projection.makes.kept_facts.Goals as goal
-use Rattle.projections.proofs.projection.makes.kept_facts.Goals.{then-has+in_ok-push, else-has}
-
-pub loop-f-preserved : goal.loop-f-preserved
-loop-f-preserved c =
-    let keep = among c.args.pattern.now in
-    let fs = c.args.facts.now in
-    let was = vec_items c.loop-f.chosen in
-    let now = vec_items c.if-has.chosen in
-    elim c.if-has.branch [
-      | then-has+in_ok-push w ↦ kept_more keep fs c.loop-f.f-index _ c.loop-f-test.true was (vec_items w.push.new.self) now (kept_facts keep fs) w.new_number.result (sym c.has.ensures ∙ w.if-has.true) w.new_number.ensures.value w.in_ok-push.ensures.items (ap vec_items w.chosen-is) c.loop-f.invariant
-      | else-has w ↦ kept_none keep fs c.loop-f.f-index _ c.loop-f-test.true was now (kept_facts keep fs) (sym c.has.ensures ∙ w.if-has.false) (ap vec_items w.chosen-is) c.loop-f.invariant
-    ]
 
 pub returns : goal.returns
-returns c = add_all _ _ _ c.loop-f.invariant (ap (kept_facts (among c.args.pattern.now)) (drop_all c.loop-f.f-index c.args.facts.now c.loop-f-test.false))
+returns c =
+    let keep = among c.args.pattern.now in
+    let facts = c.args.facts.now in
+    subst (λ xs. IfOk c.collect.result (λ v. v.items ≡ xs)) (kept_is keep facts)
+    (items_from_collect _ c.collect.ensures.ran (YieldsList-from_map _ (λ f. fact_of (place keep f.variable) f) (YieldsList-at c.map.ensures.source (YieldsList-from_filter _ (λ f. keep f.variable) (YieldsList-from_slice facts cc) c.filter.ensures.closure (λ x r q k. search (rules, tests)))) c.map.ensures.closure (λ x r q k. search rules)))
