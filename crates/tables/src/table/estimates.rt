@@ -3,7 +3,7 @@ ghost use Rattle.tables.specs.Lawful.{table_lawful};
 ghost use Rattle.tables.specs.Tables.{table_heights, table_shares, table_suits};
 
 use super::Table;
-use crate::look::MARK;
+use crate::entries::MARK;
 use estimators::{Estimator, Height};
 use states::{same, state_count};
 use tasks::Task;
