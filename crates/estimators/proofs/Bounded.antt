@@ -1,5 +1,5 @@
 -- By the laws alone, no run at costs of at least the shares costs less than the height where it starts.
-use Rattle.std.proofs.Common.{ℕ, ◌≤◌, List, sym, subst, arith}
+use Rattle.std.proofs.Common.{ℕ, ◌≤◌, List, Option, sym, subst, arith}
 use Rattle.sas.specs.Model.{Model, Rules}
 use Rattle.sas.specs.Ranks.{rank}
 use Rattle.sas.specs.Runs.{Run, stay, step, cost}
@@ -8,13 +8,12 @@ use Rattle.sas.proofs.Moves.{goal_rank, step_rank}
 use Rattle.estimators.specs.Bounds.{Bounds}
 use Rattle.estimators.specs.Heights.{Admits, falls_admits, falls_more}
 use Rattle.estimators.specs.Laws.{EstimatorLaws}
-use Rattle.estimators.specs.declared.estimator.Height.{Height}
 
 module _
     {S : Type 0}
     {suits : S → Model → Type 0}
     {shares : S → ℕ → ℕ}
-    {heights : S → ℕ → Height}
+    {heights : S → ℕ → Option ℕ}
     (laws : EstimatorLaws suits shares heights)
     (e : S)
     (m : Model)

@@ -1,5 +1,5 @@
 -- The blind estimator: for the tasks equal to its own, with nothing but 0; and that it is lawful.
-use Rattle.std.specs.Prelude.{◌≡◌, ℕ, refl}
+use Rattle.std.specs.Prelude.{◌≡◌, ℕ, Option, refl}
 use Rattle.std.proofs.Common.{arith}
 use Rattle.sas.specs.Model.{Model, Rules}
 use Rattle.sas.specs.Ranks.{states}
@@ -12,12 +12,11 @@ use Rattle.tasks.specs.declared.task.Task.{Task}
 use Rattle.estimators.specs.Heights.{flat, flat_inside, flat_outside, flat_held, flat_falls}
 use Rattle.estimators.specs.Laws.{EstimatorLaws}
 use Rattle.estimators.specs.declared.blind.Blind.{Blind}
-use Rattle.estimators.specs.declared.estimator.Height.{Height}
 
 abbrev pub blind_suits : Blind → Model → Type 0
 blind_suits e m = Same (model_of e.own) m
 
-abbrev pub blind_heights : Blind → ℕ → Height
+abbrev pub blind_heights : Blind → ℕ → Option ℕ
 blind_heights e k = flat (states (model_of e.own)) k
 
 -- equal tasks have as many states

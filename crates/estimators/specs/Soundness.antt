@@ -1,29 +1,30 @@
--- When a pile, which is any estimator, is sound for costs and bars.
-use Rattle.std.specs.Prelude.{◌≡◌, ℕ, ◌<◌, ◌≤◌, Bool, false, List, length, slice_index, slice_index_or}
+-- When a pile, which is any estimator, is sound for the rows of the operators.
+use Rattle.std.specs.Prelude.{◌≡◌, ℕ, ◌<◌, ◌≤◌, false, List, length, slice_get, IsSomeAnd, option_map, unwrap_or}
 use Rattle.sas.specs.Model.{Model}
+use Rattle.sas.specs.declared.Row.{Row}
 
--- o has a cost and a bar, and is not barred
-abbrev pub Unbarred : List ℕ → List Bool → ℕ → Type 0
-Unbarred costs bars o = (o < length costs) × (o < length bars) × (slice_index_or bars o false ≡ false)
+-- o has a row, and is not barred
+abbrev pub Unbarred : List Row → ℕ → Type 0
+Unbarred rows o = IsSomeAnd (slice_get rows o) (λ r. r.barred ≡ false)
 
--- the cost of o
-abbrev pub price : List ℕ → ℕ → ℕ
-price costs o = slice_index costs o
+-- the cost of o, and 0 where it has no row
+abbrev pub price : List Row → ℕ → ℕ
+price rows o = unwrap_or (option_map (λ r. r.cost) (slice_get rows o)) 0
 
 -- if o is unbarred, its share is at most its cost
-abbrev pub Fair : List ℕ → List Bool → (ℕ → ℕ) → ℕ → Type 0
-Fair costs bars shares o = Unbarred costs bars o → shares o ≤ price costs o
+abbrev pub Fair : List Row → (ℕ → ℕ) → ℕ → Type 0
+Fair rows shares o = Unbarred rows o → shares o ≤ price rows o
 
 -- o is unbarred, and its share exceeds its cost
-abbrev pub Overcharged : List ℕ → List Bool → (ℕ → ℕ) → ℕ → Type 0
-Overcharged costs bars shares o = Unbarred costs bars o × (price costs o < shares o)
+abbrev pub Overcharged : List Row → (ℕ → ℕ) → ℕ → Type 0
+Overcharged rows shares o = Unbarred rows o × (price rows o < shares o)
 
 -- o is overcharged, and no operator before it is
-pub record FirstOvercharged (costs : List ℕ) (bars : List Bool) (shares : ℕ → ℕ) (o : ℕ) : Type 0 where
-  pub here : Overcharged costs bars shares o
-  pub first : (p : ℕ) → p < o → Fair costs bars shares p
+pub record FirstOvercharged (rows : List Row) (shares : ℕ → ℕ) (o : ℕ) : Type 0 where
+  pub here : Overcharged rows shares o
+  pub first : (p : ℕ) → p < o → Fair rows shares p
 
 -- the pile is for the task, and no unbarred operator's share exceeds its cost
-pub record Sound (m : Model) (costs : List ℕ) (bars : List Bool) (suits : Model → Type 0) (shares : ℕ → ℕ) : Type 0 where
+pub record Sound (m : Model) (rows : List Row) (suits : Model → Type 0) (shares : ℕ → ℕ) : Type 0 where
   pub suited : suits m
-  pub fair : (o : ℕ) → o < length m.operators → Fair costs bars shares o
+  pub fair : (o : ℕ) → o < length m.operators → Fair rows shares o

@@ -3,7 +3,7 @@ ghost use Rattle.std.specs.Prelude.{◌≡◌, IfOk};
 ghost use Rattle.estimators.specs.Blind.{blind_heights, blind_lawful, blind_suits};
 ghost use Rattle.tasks.specs.View.{model_of};
 
-use crate::estimator::{Estimator, Height};
+use crate::estimator::Estimator;
 use states::{same, state_count};
 use std::alloc::{AllocError, Global};
 use tasks::Task;
@@ -18,7 +18,7 @@ impl Blind {
     pub fn new(heap: Global, task: &Task) -> Result<Blind, AllocError>
         ensures { IfOk result (λ b. model_of b.own ≡ model_of task.now) }
     {
-        let own = task.copied(heap)?;
+        let own = task.clone()?;
         Ok(Blind { own })
     }
 }
@@ -40,11 +40,7 @@ impl Estimator for Blind {
         0
     }
 
-    fn height(&self, rank: usize) -> Height {
-        if rank < state_count(&self.own) {
-            Height::At(0)
-        } else {
-            Height::Dead
-        }
+    fn height(&self, rank: usize) -> Option<u64> {
+        (rank < state_count(&self.own)).then_some(0)
     }
 }

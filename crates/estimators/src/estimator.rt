@@ -1,7 +1,6 @@
 // What bounds the cost of every run to a goal from below.
-ghost use Rattle.std.specs.Prelude.{◌≡◌, ℕ, Decides};
+ghost use Rattle.std.specs.Prelude.{◌≡◌, ℕ, Decides, Option};
 ghost use Rattle.estimators.specs.Laws.{EstimatorLaws};
-ghost use Rattle.estimators.specs.declared.estimator.Height.{Height};
 ghost use Rattle.sas.specs.Model.{Model};
 ghost use Rattle.tasks.specs.View.{model_of};
 
@@ -10,13 +9,6 @@ use tasks::Task;
 // The most that a share or a height may be.
 pub const K: u64 = 1 << 40;
 
-// How far a state is from the goal: no run leads there, or each costs at least so much.
-#[derive(Clone, Copy)]
-pub enum Height {
-    Dead,
-    At(u64),
-}
-
 pub trait Estimator {
     // The tasks that it is for.
     ghost suits: { Self → Model → Type 0 };
@@ -24,8 +16,8 @@ pub trait Estimator {
     // The share of an operator, by its number.
     ghost shares: { Self → ℕ → ℕ };
 
-    // The height of a state, by its rank.
-    ghost heights: { Self → ℕ → Height };
+    // The height of a state, by its rank; none where it is dead.
+    ghost heights: { Self → ℕ → Option ℕ };
 
     ghost lawful: { EstimatorLaws suits shares heights };
 
@@ -35,6 +27,7 @@ pub trait Estimator {
     fn share(&self, operator: usize) -> u64
         ensures { result ≡ shares self.now operator };
 
-    fn height(&self, rank: usize) -> Height
+    // How far a state is from the goal: each run there costs at least so much; none, where it is dead, for no run leads there.
+    fn height(&self, rank: usize) -> Option<u64>
         ensures { result ≡ heights self.now rank };
 }

@@ -3,7 +3,7 @@ ghost use Rattle.std.specs.Prelude.{max};
 ghost use Rattle.estimators.specs.Heights.{merged, max_joins};
 ghost use Rattle.estimators.specs.Layers.{layered};
 
-use crate::estimator::{Estimator, Height};
+use crate::estimator::Estimator;
 use tasks::Task;
 
 // For the tasks that both are for: the greater share and the greater height; dead in either is dead.
@@ -32,10 +32,8 @@ impl<X: Estimator, Y: Estimator> Estimator for HigherOf<X, Y> {
         first.max(second)
     }
 
-    fn height(&self, rank: usize) -> Height {
-        match (self.first.height(rank), self.second.height(rank)) {
-            (Height::At(x), Height::At(y)) => Height::At(x.max(y)),
-            (_, _) => Height::Dead,
-        }
+    fn height(&self, rank: usize) -> Option<u64> {
+        let heights = self.first.height(rank).zip(self.second.height(rank));
+        heights.map(|(x, y)| x.max(y))
     }
 }

@@ -8,7 +8,7 @@ pub mod soundness;
 pub mod sum;
 
 pub use blind::Blind;
-pub use estimator::{Estimator, Height, K};
+pub use estimator::{Estimator, K};
 pub use higher::HigherOf;
 pub use soundness::{first_overcharged, is_sound};
 pub use sum::SumOf;

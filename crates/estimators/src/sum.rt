@@ -2,7 +2,7 @@
 ghost use Rattle.estimators.specs.Heights.{capped, capped_joins, merged};
 ghost use Rattle.estimators.specs.Layers.{layered};
 
-use crate::estimator::{Estimator, Height, K};
+use crate::estimator::{Estimator, K};
 use tasks::Task;
 
 // For the tasks that both are for: the sum of the shares and of the heights, each held at K; dead in either is dead.
@@ -31,10 +31,8 @@ impl<X: Estimator, Y: Estimator> Estimator for SumOf<X, Y> {
         (first + second).min(K)
     }
 
-    fn height(&self, rank: usize) -> Height {
-        match (self.first.height(rank), self.second.height(rank)) {
-            (Height::At(x), Height::At(y)) => Height::At((x + y).min(K)),
-            (_, _) => Height::Dead,
-        }
+    fn height(&self, rank: usize) -> Option<u64> {
+        let heights = self.first.height(rank).zip(self.second.height(rank));
+        heights.map(|(x, y)| (x + y).min(K))
     }
 }

@@ -1,5 +1,5 @@
 -- The toll estimator: blind but for one share that every operator has; and that it is lawful.
-use Rattle.std.specs.Prelude.{ℕ, ◌≤◌, min, cond, length, nat_lt}
+use Rattle.std.specs.Prelude.{ℕ, ◌≤◌, min, cond, length, nat_lt, Option}
 use Rattle.std.proofs.Common.{arith}
 use Rattle.std.proofs.lemmas.Bool.{cond_both, cond-false, le-ltb}
 use Rattle.sas.specs.Model.{Model}
@@ -8,7 +8,6 @@ use Rattle.estimators.specs.Blind.{blind_suits, blind_heights, blind_lawful}
 use Rattle.estimators.specs.Heights.{most, falls_more}
 use Rattle.estimators.specs.Laws.{EstimatorLaws}
 use Rattle.estimators.specs.declared.blind.Blind.{Blind}
-use Rattle.estimators.specs.declared.estimator.Height.{Height}
 use Rattle.piles.specs.declared.toll.Toll.{Toll}
 
 abbrev pub blind : Toll → Blind
@@ -20,7 +19,7 @@ toll_suits e m = blind_suits (blind e) m
 abbrev pub toll_shares : Toll → ℕ → ℕ
 toll_shares e o = cond (nat_lt o (length (model_of e.own).operators)) (min e.each most) 0
 
-abbrev pub toll_heights : Toll → ℕ → Height
+abbrev pub toll_heights : Toll → ℕ → Option ℕ
 toll_heights e k = blind_heights (blind e) k
 
 pub toll_lawful : EstimatorLaws toll_suits toll_shares toll_heights

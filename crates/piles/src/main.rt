@@ -3,7 +3,7 @@
 
 use crate::toll::Toll;
 use anyhow::anyhow;
-use estimators::{Blind, Estimator, Height, HigherOf, SumOf, first_overcharged, is_sound};
+use estimators::{Blind, Estimator, HigherOf, SumOf, first_overcharged, is_sound};
 use std::alloc::{AllocError, Global};
 use std::io;
 use tasks::{Card, Task};
@@ -15,8 +15,8 @@ const SAMPLE: &[u8] =
 
 fn tell_height<E: Estimator>(rt: &HostRuntime, pile: &E, rank: usize) -> io::Result<()> {
     match pile.height(rank) {
-        Height::Dead => println!(rt; "rank {rank}: dead"),
-        Height::At(height) => println!(rt; "rank {rank}: height {height}"),
+        Some(height) => println!(rt; "rank {rank}: height {height}"),
+        None => println!(rt; "rank {rank}: dead"),
     }
 }
 

@@ -3,7 +3,7 @@ ghost use Rattle.std.specs.Prelude.{◌≡◌, IfOk};
 ghost use Rattle.piles.specs.Toll.{toll_heights, toll_lawful, toll_shares, toll_suits};
 ghost use Rattle.tasks.specs.View.{model_of};
 
-use estimators::{Estimator, Height, K};
+use estimators::{Estimator, K};
 use states::{operators, same, state_count};
 use std::alloc::{AllocError, Global};
 use tasks::Task;
@@ -18,7 +18,7 @@ impl Toll {
     pub fn new(heap: Global, task: &Task, each: u64) -> Result<Toll, AllocError>
         ensures { IfOk result (λ t. (model_of t.own ≡ model_of task.now) × (t.each ≡ each)) }
     {
-        let own = task.copied(heap)?;
+        let own = task.clone()?;
         Ok(Toll { own, each })
     }
 }
@@ -44,11 +44,7 @@ impl Estimator for Toll {
         }
     }
 
-    fn height(&self, rank: usize) -> Height {
-        if rank < state_count(&self.own) {
-            Height::At(0)
-        } else {
-            Height::Dead
-        }
+    fn height(&self, rank: usize) -> Option<u64> {
+        (rank < state_count(&self.own)).then_some(0)
     }
 }

@@ -1,10 +1,8 @@
 -- A table that is built obeys the laws.
-use Rattle.std.proofs.Common.{◌≡◌, ℕ, ◌+◌, ◌<◌, ◌≤◌, Bool, eqb, List, [], ◌∷◌, length, get_or, Decides, sym, refl, ap, ◌∙◌, subst, ⊎_elim, arith}
+use Rattle.std.proofs.Common.{◌≡◌, ℕ, ◌+◌, ◌<◌, ◌≤◌, Bool, eqb, List, [], ◌∷◌, length, get_or, Some, None, Decides, sym, refl, ap, ◌∙◌, subst, ⊎_elim, arith}
 use Rattle.std.proofs.lemmas.List.{get_or_past}
 use Rattle.std.proofs.lemmas.Bool.{cond-true, cond-false, cases_lt, eq-eqb, ne_eqb}
 use Rattle.estimators.specs.Heights.{Falls, Held, most}
-use Rattle.estimators.specs.declared.estimator.Height.{Height}
-use Rattle.estimators.specs.declared.estimator.Height.TheVariants.{Dead, At}
 use Rattle.projections.specs.Projection.{Edge, Remains, among, projected}
 use Rattle.projections.specs.Shapes.{Shaped}
 use Rattle.projections.proofs.Edges.{edge_one, rank_onto, state_onto, step_into}
@@ -25,18 +23,14 @@ use Rattle.tables.specs.declared.refusal.TableRefusal.{TableRefusal}
 use Rattle.tables.specs.declared.refusal.TableRefusal.TheVariants.{Input, Room, Entry, Memory}
 use Rattle.tables.specs.declared.weighted.Weighted.{Weighted}
 
-pub height_mark : (e : ℕ) → e ≡ mark → height_at e ≡ Dead
-height_mark e is = cond-true (eqb e mark) Dead (At e) (eq-eqb e mark is)
+pub height_mark : (e : ℕ) → e ≡ mark → height_at e ≡ None
+height_mark e is = cond-true (eqb e mark) None (Some e) (eq-eqb e mark is)
 
-pub height_number : (e : ℕ) → (e ≡ mark → ⊥) → height_at e ≡ At e
-height_number e not = cond-false (eqb e mark) Dead (At e) (ne_eqb e mark not)
+pub height_number : (e : ℕ) → (e ≡ mark → ⊥) → height_at e ≡ Some e
+height_number e not = cond-false (eqb e mark) None (Some e) (ne_eqb e mark not)
 
-height_low : (e : ℕ) → e ≤ most → height_at e ≡ At e
+height_low : (e : ℕ) → e ≤ most → height_at e ≡ Some e
 height_low e low = height_number e (λ is. omega (arith, low, is))
-
-falls_dead : (w : ℕ) (x : Height) → Falls w x Dead
-falls_dead w Dead = tt
-falls_dead w (At x) = tt
 
 -- no share is too high, past the last one either
 pub all_shares_light : (shares : List ℕ) → ((o : ℕ) → o < length shares → get_or shares o 0 ≤ 65535) → (o : ℕ) → share shares o ≤ 65535
@@ -65,12 +59,12 @@ module _ (p : Model) (shaped : Shaped p) (each : ℕ → ℕ) (before after : Li
         let f = step_from p o k l s is_state is_rank e.1 in
         let there : Tells p each f.0 (entry after l) = subst (λ n. Tells p each f.0 (entry after n)) f.2 (built.exact f.0 (step_into p shaped o s f.0 f.1)) in
         ⊎_elim
-        (λ y. subst (Falls (each o) (height_at (entry after k))) (sym (height_mark (entry after l) y.0)) (falls_dead (each o) (height_at (entry after k))))
+        (λ y. subst (Falls (each o) (height_at (entry after k))) (sym (height_mark (entry after l) y.0)) tt)
         (λ y.
         let r = onward o (entry after l) f.0 e.0 f.1 y.1 in
         ⊎_elim
         (λ x. absurd (x.1 (each o + entry after l) r))
-        (λ x. subst (λ h. Falls (each o) h (height_at (entry after l))) (sym (height_low (entry after k) x.0)) (subst (Falls (each o) (At (entry after k))) (sym (height_low (entry after l) y.0)) (x.2 (each o + entry after l) r)))
+        (λ x. subst (λ h. Falls (each o) h (height_at (entry after l))) (sym (height_low (entry after k) x.0)) (subst (Falls (each o) (Some (entry after k))) (sym (height_low (entry after l) y.0)) (x.2 (each o + entry after l) r)))
         tells)
         there
 

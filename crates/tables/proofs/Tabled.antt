@@ -1,7 +1,6 @@
 -- A table that is made from what was tested is the table of its entries.
-use Rattle.std.proofs.Common.{◌≡◌, ℕ, ltb, List, length, vec_items, sym, ap, ◌∙◌, subst, arith}
+use Rattle.std.proofs.Common.{◌≡◌, ℕ, ltb, List, None, length, vec_items, sym, ap, ◌∙◌, subst, arith}
 use Rattle.std.proofs.lemmas.Bool.{cond-true, cond-false, le-ltb, lt-ltb}
-use Rattle.estimators.specs.declared.estimator.Height.TheVariants.{Dead}
 use Rattle.projections.specs.Projection.{among, only, projected}
 use Rattle.sas.specs.Model.{Model}
 use Rattle.sas.specs.Ranks.{rank, states}
@@ -27,7 +26,7 @@ module _ (m : Model) (pattern : List ℕ) (p : Model) (places shares entries : L
 
   height_is : (s : List ℕ) → State m.sizes s → height_in m pattern entries (rank m.sizes s) ≡ height_at (entry entries (rank (projected (among pattern) m).sizes (only (among pattern) s)))
   height_is s h =
-      cond-true (ltb (rank m.sizes s) (states m)) (height_at (entry entries (rank_in m pattern (rank m.sizes s)))) Dead (lt-ltb (rank m.sizes s) (states m) (rank_below m s h))
+      cond-true (ltb (rank m.sizes s) (states m)) (height_at (entry entries (rank_in m pattern (rank m.sizes s)))) None (lt-ltb (rank m.sizes s) (states m) (rank_below m s h))
       ∙ ap (λ k. height_at (entry entries k)) (rank_in_lem m pattern p places shares entries O s h)
 
   pub table_of : (t : Table) → model_of t.own ≡ m → vec_items t.pattern ≡ pattern → vec_items t.shares ≡ shares → t.entries.now ≡ entries → TableOf m pattern shares entries t

@@ -1,16 +1,14 @@
 -- Entries as heights, and when they obey the laws of an estimator in a projected task.
-use Rattle.std.specs.Prelude.{◌≡◌, ℕ, ◌<◌, cond, List, ◌==◌, slice_index}
+use Rattle.std.specs.Prelude.{◌≡◌, ℕ, ◌<◌, cond, List, ◌==◌, slice_index, Option, Some, None}
 use Rattle.estimators.specs.Heights.{Falls, Held}
-use Rattle.estimators.specs.declared.estimator.Height.{Height}
-use Rattle.estimators.specs.declared.estimator.Height.TheVariants.{Dead, At}
 use Rattle.projections.specs.Projection.{Edge}
 use Rattle.sas.specs.Model.{Model}
 use Rattle.sas.specs.Ranks.{GoalRank, states}
 use Rattle.tables.specs.Costs.{mark}
 
 -- the mark is dead
-abbrev pub height_at : ℕ → Height
-height_at e = cond (e == mark) Dead (At e)
+abbrev pub height_at : ℕ → Option ℕ
+height_at e = cond (e == mark) None (Some e)
 
 abbrev pub entry : List ℕ → ℕ → ℕ
 entry entries k = slice_index entries k

@@ -1,7 +1,5 @@
 -- What a table tells of operators and states, from its task, pattern, shares and entries.
-use Rattle.std.specs.Prelude.{ℕ, cond, List, length, nat_lt}
-use Rattle.estimators.specs.declared.estimator.Height.{Height}
-use Rattle.estimators.specs.declared.estimator.Height.TheVariants.{Dead}
+use Rattle.std.specs.Prelude.{ℕ, cond, List, length, nat_lt, Option, None}
 use Rattle.projections.specs.Parts.{folded, scales}
 use Rattle.projections.specs.Projection.{among, only, projected}
 use Rattle.sas.specs.Model.{Model}
@@ -18,5 +16,5 @@ share_in m pattern shares o = cond (nat_lt 0 (length (operator (projected (among
 abbrev pub rank_in : Model → List ℕ → ℕ → ℕ
 rank_in m pattern k = folded (only (among pattern) (scales m.sizes)) (only (among pattern) m.sizes) k
 
-abbrev pub height_in : Model → List ℕ → List ℕ → ℕ → Height
-height_in m pattern entries k = cond (nat_lt k (states m)) (height_at (entry entries (rank_in m pattern k))) Dead
+abbrev pub height_in : Model → List ℕ → List ℕ → ℕ → Option ℕ
+height_in m pattern entries k = cond (nat_lt k (states m)) (height_at (entry entries (rank_in m pattern k))) None

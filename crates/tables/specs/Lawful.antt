@@ -1,5 +1,5 @@
 -- A table is a lawful estimator for every task equal to its own.
-use Rattle.std.specs.Prelude.{◌≡◌, ℕ, ◌<◌, ◌≤◌, length, vec_items, nat_lt}
+use Rattle.std.specs.Prelude.{◌≡◌, ℕ, ◌<◌, ◌≤◌, length, vec_items, nat_lt, Some, None}
 use Rattle.std.proofs.Common.{sym, ap, subst, ◌∙◌, ⊎_elim, arith}
 use Rattle.std.proofs.Math.Logic.{∥∥₁_elim}
 use Rattle.std.proofs.Math.Bridge.{le_prop}
@@ -7,8 +7,6 @@ use Rattle.std.proofs.Math.Nat.{ℕ_set}
 use Rattle.std.proofs.lemmas.Bool.{cond-true, cond-false, cases_lt, lt-ltb, le-ltb}
 use Rattle.estimators.specs.Heights.{Falls, Held}
 use Rattle.estimators.specs.Laws.{EstimatorLaws}
-use Rattle.estimators.specs.declared.estimator.Height.{Height}
-use Rattle.estimators.specs.declared.estimator.Height.TheVariants.{Dead, At}
 use Rattle.projections.specs.View.{places_of, view_of}
 use Rattle.sas.specs.Model.{Model, Rules}
 use Rattle.sas.specs.Ranks.{GoalRank, StepRank, states}
@@ -23,25 +21,21 @@ use Rattle.tables.specs.Laws.{falls_prop, goal_alike, held_prop, opened_goal, op
 use Rattle.tables.specs.Tables.{table_heights, table_shares, table_suits}
 use Rattle.tables.specs.declared.table.Table.{Table}
 
-falls_dead : (w : ℕ) (x : Height) → Falls w x Dead
-falls_dead w Dead = tt
-falls_dead w (At x) = tt
-
 module _ (t : Table) where
   abbrev m : Model
   m = model_of t.own
 
   -- the height of a rank of the task, and of any other
   pub inside : (k : ℕ) → k < states m → table_heights t k ≡ height_at (entry t.entries.now (rank_in m (vec_items t.pattern) k))
-  inside k l = cond-true (nat_lt k (states m)) (height_at (entry t.entries.now (rank_in m (vec_items t.pattern) k))) Dead (lt-ltb k (states m) l)
+  inside k l = cond-true (nat_lt k (states m)) (height_at (entry t.entries.now (rank_in m (vec_items t.pattern) k))) None (lt-ltb k (states m) l)
 
-  pub outside : (k : ℕ) → states m ≤ k → table_heights t k ≡ Dead
-  outside k l = cond-false (nat_lt k (states m)) (height_at (entry t.entries.now (rank_in m (vec_items t.pattern) k))) Dead (le-ltb k (states m) l)
+  pub outside : (k : ℕ) → states m ≤ k → table_heights t k ≡ None
+  outside k l = cond-false (nat_lt k (states m)) (height_at (entry t.entries.now (rank_in m (vec_items t.pattern) k))) None (le-ltb k (states m) l)
 
   own_rules : Rules m
   own_rules = rules m t.own.rules
 
-  goal_own : (k : ℕ) → GoalRank m k → table_heights t k ≡ At 0
+  goal_own : (k : ℕ) → GoalRank m k → table_heights t k ≡ Some 0
   goal_own k g =
       let e = ∥∥₁_elim t.opened (ℕ_set (entry t.entries.now (rank_in m (vec_items t.pattern) k)) 0) (λ O. opened_goal m (vec_items t.pattern) (view_of t.projection) (places_of t.projection) (vec_items t.shares) t.entries.now O k g) in
       inside k (goal_rank_inside m k g) ∙ ap height_at e

@@ -1,13 +1,11 @@
 -- An opened table obeys the laws of an estimator in its own task.
-use Rattle.std.specs.Prelude.{◌≡◌, ℕ, ◌<◌, ◌≤◌, Bool, true, false, cond, ◌⊎◌, List, length, nat_lt, refl}
+use Rattle.std.specs.Prelude.{◌≡◌, ℕ, ◌<◌, ◌≤◌, Bool, true, false, cond, ◌⊎◌, List, length, nat_lt, Option, Some, None, refl}
 use Rattle.std.proofs.Common.{sym, ◌∙◌, inl, inr, ⊎_elim, arith}
 use Rattle.std.proofs.Math.Path.{ap, subst}
 use Rattle.std.proofs.Math.Bridge.{le_prop}
 use Rattle.std.proofs.lemmas.List.{get_or_past}
 use Rattle.std.proofs.lemmas.Bool.{cond-true, cases_lt, lt-ltb}
 use Rattle.estimators.specs.Heights.{Falls, Held, most}
-use Rattle.estimators.specs.declared.estimator.Height.{Height}
-use Rattle.estimators.specs.declared.estimator.Height.TheVariants.{Dead, At}
 use Rattle.projections.specs.Laws.{ProjectionLaws}
 use Rattle.projections.specs.Projection.{among, only, projected}
 use Rattle.projections.proofs.Folding.{folded_is}
@@ -24,19 +22,18 @@ use Rattle.tables.specs.Entries.{entry, height_at}
 use Rattle.tables.specs.Estimates.{rank_in, share_in}
 use Rattle.tables.specs.Opened.{Opened}
 
-pub falls_prop : (w : ℕ) (x y : Height) → IsProp (Falls w x y)
-falls_prop w (At x) (At y) a b = le_prop a b
-falls_prop w Dead (At y) a b = absurd a
-falls_prop w (At x) Dead a b = λ i. tt
-falls_prop w Dead Dead a b = λ i. tt
+pub falls_prop : (w : ℕ) (x y : Option ℕ) → IsProp (Falls w x y)
+falls_prop w (Some x) (Some y) a b = le_prop a b
+falls_prop w None (Some y) a b = absurd a
+falls_prop w x None a b = λ i. tt
 
-pub held_prop : (x : Height) → IsProp (Held x)
-held_prop Dead a b = λ i. tt
-held_prop (At x) a b = le_prop a b
+pub held_prop : (x : Option ℕ) → IsProp (Held x)
+held_prop None a b = λ i. tt
+held_prop (Some x) a b = le_prop a b
 
-falls_same : (w : ℕ) (x : Height) → Falls w x x
-falls_same w Dead = tt
-falls_same w (At x) = omega arith
+falls_same : (w : ℕ) (x : Option ℕ) → Falls w x x
+falls_same w None = tt
+falls_same w (Some x) = omega arith
 
 -- equal tasks have the same steps and goals by rank
 pub goal_alike : (m n : Model) → Alike m n → (k : ℕ) → GoalRank m k → GoalRank n k

@@ -1,6 +1,5 @@
 -- A table as an estimator: for which tasks it is, and what it tells of the pattern that it was opened with.
-use Rattle.std.specs.Prelude.{◌≡◌, ℕ, List, vec_items}
-use Rattle.estimators.specs.declared.estimator.Height.{Height}
+use Rattle.std.specs.Prelude.{◌≡◌, ℕ, List, vec_items, Option}
 use Rattle.projections.specs.Projection.{among, only, projected, Remains}
 use Rattle.sas.specs.Model.{Model}
 use Rattle.sas.specs.Ranks.{rank}
@@ -18,7 +17,7 @@ table_suits t m = Same (model_of t.own) m
 abbrev pub table_shares : Table → ℕ → ℕ
 table_shares t o = share_in (model_of t.own) (vec_items t.pattern) (vec_items t.shares) o
 
-abbrev pub table_heights : Table → ℕ → Height
+abbrev pub table_heights : Table → ℕ → Option ℕ
 table_heights t k = height_in (model_of t.own) (vec_items t.pattern) t.entries.now k
 
 -- t is the table of these entries for the task m, the pattern and the shares

@@ -4,7 +4,7 @@ ghost use Rattle.tables.specs.Tables.{table_heights, table_shares, table_suits};
 
 use super::Table;
 use crate::entries::MARK;
-use estimators::{Estimator, Height};
+use estimators::Estimator;
 use states::{same, state_count};
 use tasks::Task;
 
@@ -23,21 +23,17 @@ impl<'a> Estimator for Table<'a> {
 
     fn share(&self, operator: usize) -> u64 {
         if self.projection.remains(operator) {
-            self.shares[operator] as u64
+            u64::from(self.shares[operator])
         } else {
             0
         }
     }
 
-    fn height(&self, rank: usize) -> Height {
+    fn height(&self, rank: usize) -> Option<u64> {
         if rank >= state_count(&self.own) {
-            return Height::Dead;
+            return None;
         }
         let entry = self.entries[self.projection.of(rank)];
-        if entry == MARK {
-            Height::Dead
-        } else {
-            Height::At(entry)
-        }
+        if entry == MARK { None } else { Some(entry) }
     }
 }

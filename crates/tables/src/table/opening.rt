@@ -36,7 +36,7 @@ impl<'a> Table<'a> {
         if !lent.obeys() {
             return Err(TableRefusal::Entry);
         }
-        let own = task.copied(heap)?;
+        let own = task.clone()?;
         let pattern = Vec::from_slice(heap, pattern)?;
         let shares = Vec::from_slice(heap, shares)?;
         let Weighted { projection, .. } = graph;

@@ -1,6 +1,6 @@
 -- Each choice of the free variables is a rank from which the operator leads to t, and there are no others.
-use Rattle.std.proofs.Common.{◌+◌, ◌<◌, refl, ap, ◌∙◌, inl, inr, ⊎_elim, arith}
-use Rattle.projections.specs.Origins.{free, ways}
+use Rattle.std.proofs.Common.{◌≡◌, ◌+◌, ◌<◌, refl, ap, ◌∙◌, inl, inr, ⊎_elim, arith}
+use Rattle.projections.specs.Origins.{free, offset, ways}
 use Rattle.projections.proofs.Edges.{edge_inside}
 use Rattle.tables.specs.Weighted.{cost_of, task_of}
 use Rattle.tables.proofs.Looks.{later_start, later_next, later_end}
@@ -51,7 +51,7 @@ loop-n-preserved g c =
       ordered = c.offer.ensures.ordered;
       places = c.offer.ensures.places ∙ inv.places;
       capped = λ v d e. ⊎_elim (inv.capped v d) (λ q. inr (omega (arith, q, c.requires.ready.looking.fixed.light o, c.share.ensures))) (c.offer.ensures.offered.keys v d e);
-      sofar = later_next p (cost_of graph) c.args.self.now.entries.now graph.states c.args.t c.args.g o c.args.origin c.requires.origin c.loop-n.n _ _ (g.W.WaitingList.waiting c.loop-n.list) (g.W.WaitingList.waiting c.offer.new.list) within (ap (λ k. c.args.origin + k) c.offset.ensures) cost c.offer.ensures.offered inv.sofar;
+      sofar = later_next p (cost_of graph) c.args.self.now.entries.now graph.states c.args.t c.args.g o c.args.origin c.requires.origin c.loop-n.n _ _ (g.W.WaitingList.waiting c.loop-n.list) (g.W.WaitingList.waiting c.offer.new.list) within (ap (λ k. c.args.origin + k) {y = offset p.sizes (free p o) c.loop-n.n} c.offset.ensures) cost c.offer.ensures.offered inv.sofar;
     }
 
 pub returns : goal.returns
