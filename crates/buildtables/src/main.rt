@@ -7,7 +7,6 @@ use heap::Heap;
 use keys::Distance;
 use lists::WaitingList;
 use states::state_count;
-use std::alloc::{AllocError, Global};
 use std::io::Read;
 use tables::{MARK, build};
 use tasks::{Card, Task};
@@ -15,36 +14,24 @@ use tasks::{Card, Task};
 // One byte more than a card may have.
 const MOST_BYTES: u64 = 16385;
 
-fn shares_at(heap: Global, costs: &[u16]) -> Result<Vec<u32>, AllocError> {
-    let mut shares = Vec::new(heap);
-    for cost in costs {
-        shares.push(u32::from(*cost))?;
-    }
-    Ok(shares)
-}
-
 // How many entries are numbers, and their sum.
 fn summed(entries: &[u64]) -> (u64, u64) {
-    let mut count: u64 = 0;
-    let mut sum: u64 = 0;
-    for entry in entries {
-        if *entry != MARK {
-            count = count.saturating_add(1);
-            sum = sum.saturating_add(*entry);
-        }
-    }
-    (count, sum)
+    let numbers = entries.iter().filter(|entry| **entry != MARK);
+    numbers.fold(
+        (0, 0),
+        |(count, sum): (u64, u64), entry| (count.saturating_add(1), sum.saturating_add(*entry)),
+    )
 }
 
 // How many states the variables of a pattern have together.
 fn projected_count(task: &Task, pattern: &[u8]) -> usize {
-    let mut count: usize = 1;
-    for v in pattern {
-        if let Some(size) = states::size(task, *v as usize) {
-            count = count.saturating_mul(size as usize);
-        }
-    }
-    count
+    let sizes = pattern
+        .iter()
+        .filter_map(|v| states::size(task, usize::from(*v)));
+    sizes.fold(
+        1,
+        |count: usize, size| count.saturating_mul(usize::from(size)),
+    )
 }
 
 fn tell_table(rt: &HostRuntime, task: &Task, pattern: &[u8], shares: &[u32]) -> anyhow::Result<()> {
@@ -81,7 +68,7 @@ fn run(rt: &HostRuntime) -> anyhow::Result<()> {
         return Err(anyhow!("the card is not read"));
     }
     let costs = card.costs(heap)?;
-    let shares = shares_at(heap, costs.as_slice())?;
+    let shares: Vec<u32> = costs.iter().map(|cost| u32::from(*cost)).collect(heap)?;
     for pattern in card.patterns() {
         tell_table(rt, card.task(), pattern.as_slice(), shares.as_slice())?;
     }

@@ -58,21 +58,22 @@ fn build_all<W: WaitingList<Key = Distance>>(
     task: &Task,
     list: &mut W,
 ) -> anyhow::Result<()> {
-    built(rt, "axle", task, &[2], &SHARES, list)?;
-    built(rt, "lift and rollers", task, &[0, 1], &SHARES, list)?;
-    built(
-        rt,
-        "in another order, one twice",
-        task,
-        &[1, 0, 1],
-        &SHARES,
-        list,
-    )?;
-    built(rt, "no pattern", task, &[], &SHARES, list)?;
-    built(rt, "outside", task, &[0, 3], &SHARES, list)?;
-    built(rt, "four shares", task, &[0], &[3, 4, 2, 1], list)?;
-    built(rt, "heavy share", task, &[0], &[3, 4, 2, 1, 65536], list)?;
-    built(rt, "all variables", task, &[0, 1, 2], &SHARES, list)
+    let few = &SHARES[..4];
+    let heavy = &[3, 4, 2, 1, 65536];
+    let cases: [(&str, &[u8], &[u32]); 8] = [
+        ("axle", &[2], &SHARES),
+        ("lift and rollers", &[0, 1], &SHARES),
+        ("in another order, one twice", &[1, 0, 1], &SHARES),
+        ("no pattern", &[], &SHARES),
+        ("outside", &[0, 3], &SHARES),
+        ("four shares", &[0], few),
+        ("heavy share", &[0], heavy),
+        ("all variables", &[0, 1, 2], &SHARES),
+    ];
+    for (case, pattern, shares) in cases {
+        built(rt, case, task, pattern, shares, list)?;
+    }
+    Ok(())
 }
 
 fn open(rt: &HostRuntime, case: &str, task: &Task, entries: &[u64]) -> anyhow::Result<()> {
@@ -84,14 +85,20 @@ fn open(rt: &HostRuntime, case: &str, task: &Task, entries: &[u64]) -> anyhow::R
 }
 
 fn open_all(rt: &HostRuntime, task: &Task) -> anyhow::Result<()> {
-    open(rt, "as built", task, &[5, 0])?;
-    open(rt, "lower", task, &[0, 0])?;
-    open(rt, "too high", task, &[6, 0])?;
-    open(rt, "dead before the goal", task, &[MARK, 0])?;
-    open(rt, "goal not 0", task, &[5, 1])?;
-    open(rt, "over K", task, &[1099511627777, 0])?;
-    open(rt, "one entry", task, &[5])?;
-    open(rt, "one entry more", task, &[5, 0, 77])
+    let cases: [(&str, &[u64]); 8] = [
+        ("as built", &[5, 0]),
+        ("lower", &[0, 0]),
+        ("too high", &[6, 0]),
+        ("dead before the goal", &[MARK, 0]),
+        ("goal not 0", &[5, 1]),
+        ("over K", &[1099511627777, 0]),
+        ("one entry", &[5]),
+        ("one entry more", &[5, 0, 77]),
+    ];
+    for (case, entries) in cases {
+        open(rt, case, task, entries)?;
+    }
+    Ok(())
 }
 
 fn tell_height<E: Estimator>(

@@ -7,12 +7,15 @@ use Rattle.projections.specs.Parts.{folded, scales}
 use Rattle.projections.specs.Projection.{among, only, projected, Remains}
 use Rattle.projections.specs.View.{places_of, view_of}
 use Rattle.projections.proofs.Edges.{remains_number}
+use Rattle.projections.proofs.Held.{held_shaped}
 use Rattle.projections.proofs.Projecting.{operators_projected, sizes_projected}
 use Rattle.sas.specs.Ranks.{states}
 use Rattle.sas.specs.States.{operator}
 use Rattle.tasks.specs.View.{model_of}
 use Rattle.tables.specs.Estimates.{rank_in}
+use Rattle.tables.specs.Weighted.{Fit}
 use Rattle.tables.specs.declared.table.Table.{Table}
+use Rattle.tables.specs.declared.weighted.Weighted.{Weighted}
 use Rattle.tables.proofs.Runs.{few_states}
 
 module _ (t : Table) where
@@ -33,3 +36,11 @@ module _ (t : Table) where
 
   pub table_few : states (view_of t.projection) ≤ 1048576
   table_few = ∥∥₁_elim t.projection.shaped le_prop (few_states (view_of t.projection))
+
+-- a graph is fit for any entries that are as many as its states
+pub graph_fit : (graph : Weighted) (long : ℕ) → graph.states ≤ long → Fit graph long
+graph_fit graph long room =
+    record {
+      count = graph.count;
+      fixed = record { shaped = held_shaped graph.projection; light = graph.light; size = graph.sized; long = room };
+    }

@@ -6,3 +6,4 @@ pub mod Costs
 pub mod Opens
 pub mod Holding
 pub mod Tabled
+pub mod Wiped

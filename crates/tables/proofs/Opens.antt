@@ -6,7 +6,7 @@ use Rattle.estimators.specs.Heights.{Falls, Held, most}
 use Rattle.projections.specs.Projection.{Edge, Remains, among, projected}
 use Rattle.projections.specs.Shapes.{Shaped}
 use Rattle.projections.proofs.Edges.{edge_one, rank_onto, state_onto, step_into}
-use Rattle.projections.proofs.Projecting.{operators_projected}
+use Rattle.projections.proofs.Held.{held_shaped}
 use Rattle.sas.specs.Model.{Model}
 use Rattle.sas.specs.Ranks.{GoalRank, rank, states}
 use Rattle.sas.specs.Runs.{stay, step}
@@ -17,8 +17,10 @@ use Rattle.tables.specs.Built.{Built}
 use Rattle.tables.specs.Costs.{Reaches, Tells, mark, share}
 use Rattle.tables.specs.Entries.{Obeys, ObeysAt, entry, height_at}
 use Rattle.tables.specs.Input.{TableInput}
-use Rattle.tables.specs.Refusals.{Opens}
-use Rattle.tables.specs.Weighted.{Fit, task_of}
+use Rattle.tables.specs.Refusals.{Opens, WhyNotBuilt, WhyNotOpened, WhyNotWeighted}
+use Rattle.tables.specs.Weighted.{cost_of, task_of}
+use Rattle.tables.specs.declared.refusal.TableRefusal.{TableRefusal}
+use Rattle.tables.specs.declared.refusal.TableRefusal.TheVariants.{Input, Room, Entry, Memory}
 use Rattle.tables.specs.declared.weighted.Weighted.{Weighted}
 
 pub height_mark : (e : ℕ) → e ≡ mark → height_at e ≡ None
@@ -31,16 +33,8 @@ height_low : (e : ℕ) → e ≤ most → height_at e ≡ Some e
 height_low e low = height_number e (λ is. omega (arith, low, is))
 
 -- no share is too high, past the last one either
-all_shares_light : (shares : List ℕ) → ((o : ℕ) → o < length shares → get_or shares o 0 ≤ 65535) → (o : ℕ) → share shares o ≤ 65535
+pub all_shares_light : (shares : List ℕ) → ((o : ℕ) → o < length shares → get_or shares o 0 ≤ 65535) → (o : ℕ) → share shares o ≤ 65535
 all_shares_light shares light o = ⊎_elim (light o) (λ l. omega (arith, get_or_past shares o 0 l)) (cases_lt o (length shares))
-
--- a projection onto a pattern that may be asked for is fit for a table
-pub input_fit : (m : Model) (pattern : List ℕ) (graph : Weighted) (long : ℕ) → TableInput m pattern graph.shares.now → task_of graph ≡ projected (among pattern) m → Shaped (task_of graph) → graph.states ≡ states (task_of graph) → graph.states ≤ long → Fit graph long
-input_fit m pattern graph long input view shaped size room =
-    record {
-      count = input.count ∙ sym (ap (λ q. length q.operators) view ∙ operators_projected (among pattern) m);
-      fixed = record { shaped = shaped; light = all_shares_light graph.shares.now input.light; size = size; long = room };
-    }
 
 module _ (p : Model) (shaped : Shaped p) (each : ℕ → ℕ) (before after : List ℕ) (built : Built p each before after) where
   module _ (k : ℕ) (below : k < states p) where
@@ -88,13 +82,36 @@ module _ (p : Model) (shaped : Shaped p) (each : ℕ → ℕ) (before after : Li
   built_obeys : Obeys p each after
   built_obeys = obeys_at
 
--- what was built over the projection onto a pattern opens
-pub built_opens : (m : Model) (pattern shares : List ℕ) (p : Model) (before after : List ℕ) → TableInput m pattern shares → p ≡ projected (among pattern) m → Shaped p → states p ≤ length before → Built p (share shares) before after →
-    Built (projected (among pattern) m) (share shares) before after × Opens m pattern shares after
-built_opens m pattern shares p before after input view shaped long built =
-    let there = subst (λ q. Built q (share shares) before after) view built in
-    let obeys = built_obeys (projected (among pattern) m) (subst Shaped view shaped) (share shares) before after there in
-    (there, record { input = input; long = omega (arith, long, ap states view, built.long); obeys = obeys })
+-- over the graph of a pattern and shares, entries that obey the laws open
+module _ (m : Model) (pattern shares : List ℕ) (graph : Weighted) (input : TableInput m pattern shares) (view : task_of graph ≡ projected (among pattern) m) (same : graph.shares.now ≡ shares) where
+  pub graph_opens : (entries : List ℕ) → graph.states ≤ length entries → Obeys (task_of graph) (cost_of graph) entries → Opens m pattern shares entries
+  graph_opens entries long obeys =
+      record {
+        input = input;
+        long = omega (arith, long, graph.sized, ap states view);
+        obeys = subst (λ q. Obeys q (share shares) entries) view (subst (λ (xs : List ℕ). Obeys (task_of graph) (share xs) entries) same obeys);
+      }
+
+  -- as what was built does
+  pub built_opens : (before after : List ℕ) → graph.states ≤ length before → Built (task_of graph) (cost_of graph) before after →
+      Built (projected (among pattern) m) (share shares) before after × Opens m pattern shares after
+  built_opens before after long built = (
+    subst (λ q. Built q (share shares) before after) view (subst (λ (xs : List ℕ). Built (task_of graph) (share xs) before after) same built),
+    graph_opens after (omega (arith, long, built.long)) (built_obeys (task_of graph) (held_shaped graph.projection) (cost_of graph) before after built),
+  )
+
+-- where there is no graph, nothing is built or opened
+pub why_not_built : (m : Model) (pattern shares : List ℕ) (entries places : ℕ) (e : TableRefusal) → WhyNotWeighted m pattern shares e → WhyNotBuilt m pattern shares entries places e
+why_not_built m pattern shares entries places Input h = h
+why_not_built m pattern shares entries places Room h = absurd h
+why_not_built m pattern shares entries places Entry h = absurd h
+why_not_built m pattern shares entries places Memory h = h
+
+pub why_not_opened : (m : Model) (pattern shares entries : List ℕ) (e : TableRefusal) → WhyNotWeighted m pattern shares e → WhyNotOpened m pattern shares entries e
+why_not_opened m pattern shares entries Input h = h
+why_not_opened m pattern shares entries Room h = absurd h
+why_not_opened m pattern shares entries Entry h = absurd h
+why_not_opened m pattern shares entries Memory h = h
 
 -- the operator has just the one step from a rank
 pub one_step : (p : Model) (each : ℕ → ℕ) (entries : List ℕ) (o k l : ℕ) → Edge p o k l → (b : Bool) → Decides b (Falls (each o) (height_at (entry entries k)) (height_at (entry entries l))) →

@@ -1,5 +1,5 @@
 -- A turn of the search over a waiting list: a rank is taken and gets its entry, and the steps to it are looked at.
-use Rattle.std.proofs.Common.{◌≡◌, ℕ, ◌+◌, ◌<◌, List, length, set, Option, arith}
+use Rattle.std.proofs.Common.{◌≡◌, ℕ, ◌+◌, ◌<◌, ◌≤◌, List, length, set, Option, arith}
 use Rattle.keys.specs.Orders.{by_number}
 use Rattle.keys.specs.declared.Distance.{Distance}
 use Rattle.lists.specs.Waits.{Taken}
@@ -8,10 +8,14 @@ use Rattle.tables.specs.Going.{marks}
 use Rattle.tables.specs.Lists.{Goes, Looked, Ready}
 use Rattle.tables.specs.Weighted.{Fit, cost_of, task_of}
 use Rattle.tables.specs.declared.weighted.Weighted.{Weighted}
+use Rattle.tables.proofs.Holding.{graph_fit}
 use Rattle.tables.proofs.Runs.{taken_looking, taken_marks, taken_sofar, turned}
 
 module _ {W : Type 0} (places_of : W → ℕ) (waiting_of : W → ℕ → Option Distance) (ordered_of : W → Type 0) (graph : Weighted) (long : ℕ) (entries : List ℕ) (before after : W) (t : ℕ) (d : Distance)
-    (F : Fit graph long) (inside : length entries ≡ long) (G : Goes places_of waiting_of ordered_of graph entries before) (k : Taken places_of waiting_of ordered_of by_number before t d after) where
+    (room : graph.states ≤ long) (inside : length entries ≡ long) (G : Goes places_of waiting_of ordered_of graph entries before) (k : Taken places_of waiting_of ordered_of by_number before t d after) where
+  F : Fit graph long
+  F = graph_fit graph long room
+
   pub turn_below : t < graph.states
   turn_below = (G.going.unset t d k.here).0
 

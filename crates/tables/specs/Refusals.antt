@@ -15,6 +15,13 @@ number_of Room = Some 17
 number_of Entry = Some 21
 number_of Memory = None
 
+-- why there is no graph of a pattern with these shares
+abbrev pub WhyNotWeighted : Model → List ℕ → List ℕ → TableRefusal → Type 0
+WhyNotWeighted m pattern shares Input = TableInput m pattern shares → ⊥
+WhyNotWeighted m pattern shares Room = ⊥
+WhyNotWeighted m pattern shares Entry = ⊥
+WhyNotWeighted m pattern shares Memory = TableInput m pattern shares
+
 -- why no table was built in so many entries with a list of so many places
 abbrev pub WhyNotBuilt : Model → List ℕ → List ℕ → ℕ → ℕ → TableRefusal → Type 0
 WhyNotBuilt m pattern shares entries places Input = TableInput m pattern shares → ⊥

@@ -7,7 +7,7 @@ use Rattle.tables.specs.Costs.{share}
 use Rattle.tables.specs.declared.weighted.Weighted.{Weighted}
 
 abbrev pub task_of : Weighted → Model
-task_of graph = view_of graph.projection.now
+task_of graph = view_of graph.projection
 
 abbrev pub cost_of : Weighted → ℕ → ℕ
 cost_of graph = share graph.shares.now

@@ -1,19 +1,18 @@
 // Builds a table by Dijkstra's algorithm, backwards from the goal states.
-ghost use Rattle.std.specs.Prelude.{◌≡◌, ℕ, ◌<◌, ◌≤◌, length, IfErr, OnErr, OnOk, slice_index};
+ghost use Rattle.std.specs.Prelude.{◌≡◌, ◌≤◌, length, IfErr, OnErr, OnOk};
 ghost use Rattle.lists.specs.Waits.{Cleared, Fresh};
 ghost use Rattle.projections.specs.Projection.{among, projected};
 ghost use Rattle.projections.specs.View.{view_of};
 ghost use Rattle.sas.specs.Ranks as Ranks;
 ghost use Rattle.tables.specs.Built.{Built};
-ghost use Rattle.tables.specs.Costs.{mark, share};
+ghost use Rattle.tables.specs.Costs.{share};
 ghost use Rattle.tables.specs.Going.{Seeded};
 ghost use Rattle.tables.specs.Lists.{Goes};
 ghost use Rattle.tables.specs.Refusals.{Opens, WhyNotBuilt};
-ghost use Rattle.tables.specs.Weighted.{Fit, cost_of, task_of};
+ghost use Rattle.tables.specs.Weighted.{cost_of, task_of};
 ghost use Rattle.tasks.specs.View.{model_of};
 
-use crate::input::is_fit;
-use crate::look::{MARK, look_at_all};
+use crate::entries::{MARK, StateEntries};
 use crate::refusal::TableRefusal;
 use crate::weighted::Weighted;
 use keys::Distance;
@@ -21,17 +20,6 @@ use lists::WaitingList;
 use projections::Projection;
 use std::alloc::Global;
 use tasks::Task;
-
-// Writes the mark into the first m entries.
-fn wipe(entries: &mut [u64], m: usize)
-    requires { m ≤ length entries.old }
-    ensures low { (k : ℕ) → k < m → slice_index entries.new k ≡ mark }
-    ensures rest { (k : ℕ) → m ≤ k → slice_index entries.new k ≡ slice_index entries.old k }
-{
-    for i in 0..m {
-        entries[i] = MARK;
-    }
-}
 
 // Puts the goal states at the distance 0 into a fresh list.
 fn seed<W: WaitingList<Key = Distance>>(list: &mut W, p: &Projection, m: usize)
@@ -50,27 +38,31 @@ fn seed<W: WaitingList<Key = Distance>>(list: &mut W, p: &Projection, m: usize)
 
 // Takes ranks by least distance, which is then their entry, until none waits.
 fn run<W: WaitingList<Key = Distance>>(list: &mut W, entries: &mut [u64], graph: &Weighted)
-    requires fit { Fit graph.now (length entries.old) }
+    requires long { graph.now.states ≤ length entries.old }
     requires goes { Goes W.WaitingList.places W.WaitingList.waiting W.WaitingList.ordered graph.now entries.old list.old }
     ensures emptied { Cleared W.WaitingList.places W.WaitingList.waiting W.WaitingList.ordered list.old list.new }
     ensures built { Built (task_of graph.now) (cost_of graph.now) entries.old entries.new }
 {
     while let Some((t, d)) = list.take() {
         entries[t] = d.0;
-        look_at_all(list, entries, graph, t, d.0);
+        let lent = StateEntries {
+            graph: &*graph,
+            entries: &*entries,
+        };
+        lent.look_at_all(list, t, d.0);
     }
 }
 
 // Fills the table, whatever list and entries held.
 fn fill<W: WaitingList<Key = Distance>>(list: &mut W, entries: &mut [u64], graph: &Weighted)
-    requires fit { Fit graph.now (length entries.old) }
+    requires long { graph.now.states ≤ length entries.old }
     requires room { graph.now.states ≤ W.WaitingList.places list.old }
     ensures emptied { Cleared W.WaitingList.places W.WaitingList.waiting W.WaitingList.ordered list.old list.new }
     ensures built { Built (task_of graph.now) (cost_of graph.now) entries.old entries.new }
 {
-    wipe(entries, graph.states);
+    entries[..graph.states].fill(MARK);
     list.clear();
-    seed(list, graph.projection, graph.states);
+    seed(list, &graph.projection, graph.states);
     run(list, entries, graph);
 }
 
@@ -91,21 +83,10 @@ pub fn build<W: WaitingList<Key = Distance>>(
     ensures why { IfErr result (WhyNotBuilt (model_of task.now) pattern.now shares.now (length entries.old) (W.WaitingList.places list.old)) }
     ensures untouched { OnErr result ((list.new ≡ list.old) × (entries.new ≡ entries.old)) }
 {
-    if !is_fit(task, pattern, shares) {
-        return Err(TableRefusal::Input);
-    }
-    let Ok(p) = Projection::new(heap, task, pattern) else {
-        return Err(TableRefusal::Memory);
-    };
-    let states = p.states();
-    if entries.len() < states || list.capacity() < states {
+    let graph = Weighted::new(heap, task, pattern, shares)?;
+    if entries.len() < graph.states || list.capacity() < graph.states {
         return Err(TableRefusal::Room);
     }
-    let graph = Weighted {
-        projection: &p,
-        shares,
-        states,
-    };
     fill(list, entries, &graph);
     Ok(())
 }

@@ -2,6 +2,7 @@
 #![tactic(auto)]
 
 mod building;
+mod entries;
 mod input;
 mod look;
 mod obeying;
@@ -10,6 +11,6 @@ pub mod table;
 mod weighted;
 
 pub use building::build;
-pub use look::MARK;
+pub use entries::MARK;
 pub use refusal::TableRefusal;
 pub use table::Table;

@@ -1,6 +1,9 @@
 // Why a table is not built or not opened.
 ghost use Rattle.std.specs.Prelude.{◌≡◌};
 ghost use Rattle.tables.specs.Refusals.{number_of};
+ghost use Rattle.tables.specs.declared.refusal.TableRefusal.TheVariants.{Memory};
+
+use std::alloc::AllocError;
 
 #[derive(Clone, Copy)]
 pub enum TableRefusal {
@@ -24,5 +27,13 @@ impl TableRefusal {
             TableRefusal::Entry => Some(21),
             TableRefusal::Memory => None,
         }
+    }
+}
+
+impl From<AllocError> for TableRefusal {
+    ghost from_gives = { λ _ r. r ≡ Memory };
+
+    fn from(_error: AllocError) -> TableRefusal {
+        Self::Memory
     }
 }

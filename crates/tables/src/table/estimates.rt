@@ -3,7 +3,7 @@ ghost use Rattle.tables.specs.Lawful.{table_lawful};
 ghost use Rattle.tables.specs.Tables.{table_heights, table_shares, table_suits};
 
 use super::Table;
-use crate::look::MARK;
+use crate::entries::MARK;
 use estimators::Estimator;
 use states::{same, state_count};
 use tasks::Task;
@@ -23,7 +23,7 @@ impl<'a> Estimator for Table<'a> {
 
     fn share(&self, operator: usize) -> u64 {
         if self.projection.remains(operator) {
-            self.shares[operator] as u64
+            u64::from(self.shares[operator])
         } else {
             0
         }

@@ -22,7 +22,7 @@ returns-then-remains c =
     let o = c.args.operator in
     let some = c.remains.ensures.0 c.if-remains.true in
     let more : 0 < length (operator (projected (among (vec_items t.pattern)) (model_of t.own)) o).effects = omega (arith, some, table_effects t o) in
-    c.index.ensures ∙ get_or_default (vec_items t.shares) o c.index.result.now 0 (table_share t o some) ∙ sym (cond-true _ _ 0 (lt-ltb 0 _ more))
+    c.from.ensures ∙ c.index.ensures ∙ get_or_default (vec_items t.shares) o c.index.result.now 0 (table_share t o some) ∙ sym (cond-true _ _ 0 (lt-ltb 0 _ more))
 
 pub returns-else-remains : goal.returns-else-remains
 returns-else-remains c =

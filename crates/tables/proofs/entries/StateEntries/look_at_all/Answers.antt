@@ -2,7 +2,7 @@
 use Rattle.std.proofs.Common.{◌≡◌, length, ◌∙◌, subst, inr, ⊎_elim, arith}
 use Rattle.tables.specs.Backwards.{Left}
 use Rattle.tables.specs.Lists.{Looked}
-use Rattle.tables.proofs.look.look_at_all.Goals as goal
+use Rattle.tables.proofs.entries.StateEntries.look_at_all.Goals as goal
 
 pub loop-operator-preserved : goal.loop-operator-preserved
 loop-operator-preserved g c =
@@ -16,7 +16,7 @@ loop-operator-preserved g c =
 pub returns : goal.returns
 returns g c =
     let w = g.W.WaitingList in
-    let graph = c.args.graph.now in
+    let graph = c.args.self.now.graph.now in
     let t = c.args.t in
     let end : c.loop-operator.operator ≡ length graph.shares.now = omega (arith, c.loop-operator-test.false, c.loop-operator.auto.operator-end) in
-    subst (λ n. Looked w.places w.waiting w.ordered graph c.args.entries.now t c.args.g (Left t n) c.args.list.now c.loop-operator.list) end c.loop-operator.invariant
+    subst (λ n. Looked w.places w.waiting w.ordered graph c.args.self.now.entries.now t c.args.g (Left t n) c.args.list.now c.loop-operator.list) end c.loop-operator.invariant

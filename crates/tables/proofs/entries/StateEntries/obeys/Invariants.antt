@@ -2,7 +2,7 @@
 use Rattle.std.proofs.Common.{ℕ, ◌<◌}
 use Rattle.tables.specs.Entries.{ObeysAt}
 use Rattle.tables.specs.Weighted.{cost_of, task_of}
-use Rattle.tables.proofs.obeying.obeys.Given as goal
+use Rattle.tables.proofs.entries.StateEntries.obeys.Given as goal
 
 abbrev pub invariant-loop-rank : goal.invariant-loop-rank
-invariant-loop-rank l = (k : ℕ) → k < l.rank → ObeysAt (task_of l.graph) (cost_of l.graph) l.entries k
+invariant-loop-rank l = (k : ℕ) → k < l.rank → ObeysAt (task_of l.self.graph.now) (cost_of l.self.graph.now) l.self.entries.now k
