@@ -53,11 +53,12 @@ impl<K: Key> Heap<K> {
         ensures keys { self.new.keys.items ≡ slice_set self.old.keys.items rank (Some key) }
         ensures heaped { heap_ordered K.Key.leq self.old → heap_ordered K.Key.leq self.new }
     {
+        let end = self.count;
         let place = self.ranking.place_of(rank);
-        self.ranking.exchange(place, self.count);
+        self.ranking.exchange(place, end);
         self.keys[rank] = Some(key);
         self.count += 1;
-        self.sift_up(self.count - 1);
+        self.sift_up(end);
     }
 
     // Removes the first rank.
@@ -107,8 +108,8 @@ impl<K: Key> WaitingList for Heap<K> {
     }
 
     fn take(&mut self) -> Option<(usize, K)> {
-        let (rank, key) = self.first()?;
+        let first = self.first()?;
         self.remove_first();
-        Some((rank, key))
+        Some(first)
     }
 }

@@ -12,7 +12,7 @@ loop-place-preserved g c =
     let child = c.lower_child-child in record {
       keys = inv.keys;
       count = inv.count;
-      down = λ d. down_step g.K.Key.leq m.total m.trans h.keys.items h.ranking.order.items h.count c.loop-place.place c.exchange.new.self.order.items child.result (omega arith) child.ensures.within child.ensures.child c.exchange.ensures.order child.ensures.least c.if-at_most.ensures (inv.down d);
+      down = λ d. down_step g.K.Key.leq m.total m.trans h.keys.items h.ranking.order.items h.count c.exchange.new.self.order.items c.loop-place.place child.result (omega arith) child.ensures.within child.ensures.child c.exchange.ensures.order child.ensures.least c.if-at_most.ensures (inv.down d);
     }
 
 pub invariant_of-self : goal.invariant_of-self
