@@ -7,6 +7,7 @@ use Rattle.std.proofs.lemmas.Bool.{and_from, cond-true, lt-ltb, eq-eqb, cases_Bo
 use Rattle.sas.specs.Model.{Valued}
 use Rattle.fields.specs.declared.faults.LineFault.{LineFault}
 use Rattle.fields.specs.declared.faults.LineFault.TheVariants.{Order}
+use Rattle.fields.specs.Fields.{at}
 use Rattle.fields.specs.Text.{is_name, tidy}
 use Rattle.fields.specs.Lines.{skipped}
 use Rattle.cards.specs.Content.{Var, Oper, Content, Aimed, PatternRules, sizes}
@@ -121,8 +122,8 @@ variable_read l s v h few e f t =
 
 operator_of_lem : (l : ℕ) (name : List ℕ) (cost : ℕ) → is_name name ≡ true → cost < 65536 → operator_of l name (decimal cost) ≡ Ok (record { line = l; oper = fresh name cost })
 operator_of_lem l name cost n h =
-    bind_ok (name_at l 2 name) name _ (name_at_lem l 2 name n)
-    ∙ bind_ok (number_at l 3 0 65536 (decimal cost)) cost _ (number_at_lem l 3 0 65536 cost (omega arith) h (omega arith))
+    bind_ok (name_at (at l 2) name) name _ (name_at_lem (at l 2) name n)
+    ∙ bind_ok (number_at (at l 3) 0 65536 (decimal cost)) cost _ (number_at_lem (at l 3) 0 65536 cost (omega arith) h (omega arith))
 
 operator_read : (l : ℕ) (s : Reading) (name : List ℕ) (cost : ℕ) → is_name name ≡ true → cost < 65536 → length s.opers < 128 → s.patterns ≡ [] → tidy (operator_line (fresh name cost)) ≡ true → line_on l s (operator_line (fresh name cost)) ≡ Ok (record { vars = s.vars; opers = s.opers ++ record { line = l; oper = fresh name cost } ∷ []; patterns = s.patterns })
 operator_read l s name cost n h few f t =
@@ -183,7 +184,7 @@ part_read w rules l s os o x few t k =
 indices_passes : (l n : ℕ) (vs ws : List ℕ) → n ≤ 16 → AllByRecursion (λ v. v < n) ws → indices_on l n vs (map decimal ws) ≡ Ok (vs ++ ws)
 indices_passes l n vs [] few h = ap Ok (sym (append-nil vs))
 indices_passes l n vs (w ∷ ws) few h =
-    bind_ok (number_at l (length vs + 2) 0 n (decimal w)) w (λ v. indices_on l n (vs ++ v ∷ []) (map decimal ws)) (number_at_lem l (length vs + 2) 0 n w (omega arith) h.0 (omega (arith, h.0)))
+    bind_ok (number_at (at l (length vs + 2)) 0 n (decimal w)) w (λ v. indices_on l n (vs ++ v ∷ []) (map decimal ws)) (number_at_lem (at l (length vs + 2)) 0 n w (omega arith) h.0 (omega (arith, h.0)))
     ∙ indices_passes l n (vs ++ w ∷ []) ws few h.1
     ∙ ap Ok (append_assoc vs (w ∷ []) ws)
 

@@ -5,12 +5,13 @@ use Rattle.std.proofs.lemmas.List.{length-map, map_push, nil_from_length}
 use Rattle.std.proofs.lemmas.List.Elements.{filter-append}
 use Rattle.std.proofs.lemmas.Result.{IfOk-weaker}
 use Rattle.std.proofs.lemmas.Bool.{and_parts, leb-true, ltb-true, eqb-true, cond_both}
+use Rattle.fields.specs.declared.place.Place.{Place}
 use Rattle.fields.specs.declared.faults.FieldFault.{FieldFault}
 use Rattle.fields.specs.declared.faults.FieldFault.TheVariants.{NoName, NoNumber}
 use Rattle.fields.specs.declared.faults.LineFault.{LineFault}
 use Rattle.fields.specs.declared.faults.LineFault.TheVariants.{Order}
 use Rattle.fields.specs.Text.{is_name, numeral, pieces, tidy}
-use Rattle.fields.specs.Fields.{name, number, dash, text_of, name_field, number_field, from, value_in}
+use Rattle.fields.specs.Fields.{at, name, number, dash, text_of, name_field, number_field, from, value_in}
 use Rattle.fields.specs.Lines.{Cut, variable, operator, precondition, effect, pattern, cut_line, map_ok, four, two, some, by_letter, by_fields, skipped}
 use Rattle.sas.specs.Model.{Distinct}
 use Rattle.cards.specs.Content.{Var, Oper, Aimed, sizes}
@@ -23,9 +24,9 @@ use Rattle.cards.proofs.Pieces.{rejoined, rejoined_pieces}
 use Rattle.cards.proofs.Steps.{VarKept, Way, R, E, add_to, WayRules, r_rules, e_rules, part_line, Fits, Kept, Few, kept_few, size_small, with_operators, with_pattern, fresh, more_part, PartStep, Step, step_as, v_line, o_line, r_line, e_line, t_line, Steps, steps_kept, steps_append}
 
 -- fields
-name_made : (l f : ℕ) (text : List ℕ) → IfOk (name_at l f text) (λ t. (is_name t ≡ true) × (t ≡ text))
-name_made l f text =
-    made_in_field _ (map_ok text_of (name_field l f text)) (made_map_ok _ text_of (name_field l f text) (made_test (λ p. (is_name (text_of p) ≡ true) × (text_of p ≡ text)) (is_name text) (Ok (name text l f)) (NoName l f) (λ e. (e, refl))))
+name_made : (q : Place) (text : List ℕ) → IfOk (name_at q text) (λ t. (is_name t ≡ true) × (t ≡ text))
+name_made q text =
+    made_in_field _ (map_ok text_of (name_field q text)) (made_map_ok _ text_of (name_field q text) (made_test (λ p. (is_name (text_of p) ≡ true) × (text_of p ≡ text)) (is_name text) (Ok (name text q)) (NoName q) (λ e. (e, refl))))
 
 -- the text writes n, which is from low to below end
 record Number (low end : ℕ) (text : List ℕ) (n : ℕ) : Type 0 where
@@ -39,41 +40,41 @@ from_made low end e (Some n) =
     made_test (λ m. (Some n ≡ Some m) × (low ≤ m) × (m < end)) (leb low n && ltb n end) (Ok n) e
     (λ h. let p = and_parts (leb low n) (ltb n end) h in (refl, leb-true low n p.0, ltb-true n end p.1))
 
-value_made : (l f low end : ℕ) (text : List ℕ) → IfOk (value_in low end (number text l f)) (Number low end text)
-value_made l f low end text =
-    IfOk-weaker (from low end (NoNumber l f) (numeral text)) _ (Number low end text) (λ n h. record { above = h.1; below = h.2; spelled = decimal_numeral n text h.0 }) (from_made low end (NoNumber l f) (numeral text))
+value_made : (q : Place) (low end : ℕ) (text : List ℕ) → IfOk (value_in low end (number text q)) (Number low end text)
+value_made q low end text =
+    IfOk-weaker (from low end (NoNumber q) (numeral text)) _ (Number low end text) (λ n h. record { above = h.1; below = h.2; spelled = decimal_numeral n text h.0 }) (from_made low end (NoNumber q) (numeral text))
 
 -- what is made of a number field, whatever follows
-field_made : {X : Type 0} (P : X → Type 0) (l f : ℕ) (text : List ℕ) (next : _ → Result X FieldFault) → IfOk (next (number text l f)) P → IfOk (in_field (number_field l f text >>= next)) P
-field_made P l f text next h =
-    made_in_field P (number_field l f text >>= next) (cond_both (is_some (numeral text)) (Ok (number text l f)) (Err (NoNumber l f)) (λ r. IfOk (r >>= next) P) (λ _. h) (λ _. tt))
+field_made : {X : Type 0} (P : X → Type 0) (q : Place) (text : List ℕ) (next : _ → Result X FieldFault) → IfOk (next (number text q)) P → IfOk (in_field (number_field q text >>= next)) P
+field_made P q text next h =
+    made_in_field P (number_field q text >>= next) (cond_both (is_some (numeral text)) (Ok (number text q)) (Err (NoNumber q)) (λ r. IfOk (r >>= next) P) (λ _. h) (λ _. tt))
 
-number_made : (l f low end : ℕ) (text : List ℕ) → IfOk (number_at l f low end text) (Number low end text)
-number_made l f low end text = field_made (Number low end text) l f text (value_in low end) (value_made l f low end text)
+number_made : (q : Place) (low end : ℕ) (text : List ℕ) → IfOk (number_at q low end text) (Number low end text)
+number_made q low end text = field_made (Number low end text) q text (value_in low end) (value_made q low end text)
 
 abbrev Goal : ℕ → List ℕ → Option ℕ → Type 0
 Goal size text g = Aimed size g × (size ≤ 16 → goal_text g ≡ text)
 
-goal_number : (l f size : ℕ) (text : List ℕ) → IfOk (in_field (number_field l f text >>= goal_in size)) (Goal size text)
-goal_number l f size text =
-    field_made (Goal size text) l f text (goal_in size)
-    (made_map_ok (Goal size text) Some (value_in 0 size (number text l f)) (IfOk-weaker (value_in 0 size (number text l f)) (Number 0 size text) _ (λ n h. (h.below, λ k. h.spelled (omega arith))) (value_made l f 0 size text)))
+goal_number : (q : Place) (size : ℕ) (text : List ℕ) → IfOk (in_field (number_field q text >>= goal_in size)) (Goal size text)
+goal_number q size text =
+    field_made (Goal size text) q text (goal_in size)
+    (made_map_ok (Goal size text) Some (value_in 0 size (number text q)) (IfOk-weaker (value_in 0 size (number text q)) (Number 0 size text) _ (λ n h. (h.below, λ k. h.spelled (omega arith))) (value_made q 0 size text)))
 
-goal_made : (l f size : ℕ) (text : List ℕ) → IfOk (goal_at l f size text) (Goal size text)
-goal_made l f size [] = goal_number l f size []
-goal_made l f size (b ∷ []) =
-    cond_both (eqb b 45) (Ok (dash l f)) (number_field l f (b ∷ [])) (λ r. IfOk (in_field (r >>= goal_in size)) (Goal size (b ∷ [])))
+goal_made : (q : Place) (size : ℕ) (text : List ℕ) → IfOk (goal_at q size text) (Goal size text)
+goal_made q size [] = goal_number q size []
+goal_made q size (b ∷ []) =
+    cond_both (eqb b 45) (Ok (dash q)) (number_field q (b ∷ [])) (λ r. IfOk (in_field (r >>= goal_in size)) (Goal size (b ∷ [])))
     (λ e. (tt, λ _. ap (λ x. x ∷ []) (sym (eqb-true b 45 e))))
-    (λ _. goal_number l f size (b ∷ []))
-goal_made l f size (b ∷ c ∷ cs) = goal_number l f size (b ∷ c ∷ cs)
+    (λ _. goal_number q size (b ∷ []))
+goal_made q size (b ∷ c ∷ cs) = goal_number q size (b ∷ c ∷ cs)
 
 -- records
 variable_made : (l : ℕ) (n z a g : List ℕ) → IfOk (variable_of l n z a g) (λ v. VarKept v × (variable_line v ≡ tabbed (86 ∷ []) (n ∷ z ∷ a ∷ g ∷ [])))
 variable_made l n z a g =
-    made_bind _ _ (name_at l 2 n) _ (name_made l 2 n)
-    (λ called e. made_bind (Number 2 17 z) _ (number_at l 3 2 17 z) _ (number_made l 3 2 17 z)
-    (λ size b. made_bind (Number 0 size a) _ (number_at l 4 0 size a) _ (number_made l 4 0 size a)
-    (λ start c. made_bind (Goal size g) _ (goal_at l 5 size g) _ (goal_made l 5 size g)
+    made_bind _ _ (name_at (at l 2) n) _ (name_made (at l 2) n)
+    (λ called e. made_bind (Number 2 17 z) _ (number_at (at l 3) 2 17 z) _ (number_made (at l 3) 2 17 z)
+    (λ size b. made_bind (Number 0 size a) _ (number_at (at l 4) 0 size a) _ (number_made (at l 4) 0 size a)
+    (λ start c. made_bind (Goal size g) _ (goal_at (at l 5) size g) _ (goal_made (at l 5) size g)
     (λ goal d.
     let p : called ≡ n = e.1 in
     let q : decimal size ≡ z = b.spelled (omega arith) in
@@ -91,8 +92,8 @@ record OperMade (n c : List ℕ) (o : Placed) : Type 0 where
 
 operator_made : (l : ℕ) (n c : List ℕ) → IfOk (operator_of l n c) (OperMade n c)
 operator_made l n c =
-    made_bind _ (OperMade n c) (name_at l 2 n) _ (name_made l 2 n)
-    (λ called e. made_bind (Number 0 65536 c) (OperMade n c) (number_at l 3 0 65536 c) _ (number_made l 3 0 65536 c)
+    made_bind _ (OperMade n c) (name_at (at l 2) n) _ (name_made (at l 2) n)
+    (λ called e. made_bind (Number 0 65536 c) (OperMade n c) (number_at (at l 3) 0 65536 c) _ (number_made (at l 3) 0 65536 c)
     (λ cost b.
     let p : called ≡ n = e.1 in
     let q : decimal cost ≡ c = b.spelled (omega arith) in
@@ -100,8 +101,8 @@ operator_made l n c =
 
 valued_made : (l : ℕ) (vs : List Var) (a b : List ℕ) → Few vs → IfOk (valued_of l vs a b) (λ p. (p.0 < length vs) × (p.1 < get_or (sizes vs) p.0 0) × (decimal p.0 ≡ a) × (decimal p.1 ≡ b))
 valued_made l vs a b h =
-    made_bind (Number 0 (length vs) a) _ (number_at l 2 0 (length vs) a) _ (number_made l 2 0 (length vs) a)
-    (λ v p. made_bind (Number 0 (get_or (sizes vs) v 0) b) _ (number_at l 3 0 (get_or (sizes vs) v 0) b) _ (number_made l 3 0 (get_or (sizes vs) v 0) b)
+    made_bind (Number 0 (length vs) a) _ (number_at (at l 2) 0 (length vs) a) _ (number_made (at l 2) 0 (length vs) a)
+    (λ v p. made_bind (Number 0 (get_or (sizes vs) v 0) b) _ (number_at (at l 3) 0 (get_or (sizes vs) v 0) b) _ (number_made (at l 3) 0 (get_or (sizes vs) v 0) b)
     (λ x q. (p.below, q.below, p.spelled (omega (arith, h.few)), q.spelled (omega (arith, size_small vs v h p.below)))))
 
 -- xs with one part more
@@ -150,7 +151,7 @@ none_nil xs e = nil_from_length xs (eqb-true (length xs) 0 e)
 indices_made : (l n : ℕ) (vs : List ℕ) (ts : List (List ℕ)) → n ≤ 16 → IfOk (indices_on l n vs ts) (λ ws. (us : List ℕ) × (ws ≡ vs ++ us) × AllByRecursion (λ v. v < n) us × (map decimal us ≡ ts))
 indices_made l n vs [] h = ([], sym (append-nil vs), tt, refl)
 indices_made l n vs (t ∷ ts) h =
-    made_bind (Number 0 n t) _ (number_at l (length vs + 2) 0 n t) _ (number_made l (length vs + 2) 0 n t)
+    made_bind (Number 0 n t) _ (number_at (at l (length vs + 2)) 0 n t) _ (number_made (at l (length vs + 2)) 0 n t)
     (λ v k. IfOk-weaker (indices_on l n (vs ++ v ∷ []) ts) _ _
     (λ ws (us, e, b, d). let q : decimal v ≡ t = k.spelled (omega arith) in (v ∷ us, e ∙ append_assoc vs (v ∷ []) us, (k.below, b), cc))
     (indices_made l n (vs ++ v ∷ []) ts h))

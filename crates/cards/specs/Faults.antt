@@ -1,5 +1,7 @@
 -- The number of a card's fault, with its line and field; and answers that want of memory may replace.
 use Rattle.std.specs.Prelude.{◌≡◌, ℕ, Some, None, Ok, Err, Option, Result}
+use Rattle.fields.specs.declared.place.Place.{Place}
+use Rattle.fields.specs.Fields.{at}
 use Rattle.fields.specs.Lines.{line_number, line_place}
 use Rattle.cards.specs.declared.CardFault.{CardFault}
 use Rattle.cards.specs.declared.CardFault.TheVariants.{Memory, TooLong, InLine, NoVariable, NoEffect, TooManyStates}
@@ -14,13 +16,13 @@ card_number (NoEffect l) = Some 8
 card_number TooManyStates = Some 9
 
 -- line and field, each 0 where it has none
-abbrev pub card_place : CardFault → ℕ × ℕ
-card_place Memory = (0, 0)
-card_place TooLong = (0, 0)
+abbrev pub card_place : CardFault → Place
+card_place Memory = at 0 0
+card_place TooLong = at 0 0
 card_place (InLine e) = line_place e
-card_place NoVariable = (0, 0)
-card_place (NoEffect l) = (l, 0)
-card_place TooManyStates = (0, 0)
+card_place NoVariable = at 0 0
+card_place (NoEffect l) = at l 0
+card_place TooManyStates = at 0 0
 
 -- the answer r is w, by what f makes of a value, unless memory failed
 abbrev pub Tells : {U X : Type 0} → (U → X) → Result U CardFault → Result X CardFault → Type 0

@@ -1,14 +1,16 @@
 -- How a card is read, line by line: what it says, or its first fault.
-use Rattle.std.specs.Prelude.{ℕ, ◌+◌, Bool, true, false, cond, ◌&&◌, ◌||◌, List, [], ◌∷◌, ◌++◌, map, length, Some, None, Ok, Err, Option, Result, ◌==◌, nat_le, nat_lt, slice_index}
+use Rattle.std.specs.Prelude.{ℕ, ◌+◌, Bool, true, cond, ◌&&◌, List, [], ◌∷◌, ◌++◌, map, length, Some, None, Ok, Err, Option, Result, ◌==◌, nat_le, nat_lt, slice_index}
+use Rattle.std.specs.List.{list_any}
 use Rattle.sas.specs.declared.Precondition.{Precondition}
 use Rattle.sas.specs.declared.Fact.{Fact}
 use Rattle.sas.specs.Model.{product}
+use Rattle.fields.specs.declared.place.Place.{Place}
 use Rattle.fields.specs.declared.faults.FieldFault.{FieldFault}
 use Rattle.fields.specs.declared.faults.FieldFault.TheVariants.{Twice}
 use Rattle.fields.specs.declared.faults.LineFault.{LineFault}
 use Rattle.fields.specs.declared.faults.LineFault.TheVariants.{Order, Many, InField}
 use Rattle.fields.specs.Text.{pieces}
-use Rattle.fields.specs.Fields.{Plain, name, number, dash, text_of, name_field, number_field, number_or_dash, value_in}
+use Rattle.fields.specs.Fields.{at, Plain, name, number, dash, text_of, name_field, number_field, number_or_dash, value_in}
 use Rattle.fields.specs.Lines.{Cut, variable, operator, precondition, effect, pattern, cut_line, map_ok}
 use Rattle.cards.specs.declared.CardFault.{CardFault}
 use Rattle.cards.specs.declared.CardFault.TheVariants.{TooLong, InLine, NoVariable, NoEffect, TooManyStates}
@@ -35,53 +37,52 @@ abbrev pub in_field : {X : Type 0} → Result X FieldFault → Result X LineFaul
 in_field (Ok x) = Ok x
 in_field (Err e) = Err (InField e)
 
--- the name at place f of line l
-abbrev pub name_at : ℕ → ℕ → List ℕ → Result (List ℕ) LineFault
-name_at l f text = in_field (map_ok text_of (name_field l f text))
+-- the name at the place p
+abbrev pub name_at : Place → List ℕ → Result (List ℕ) LineFault
+name_at p text = in_field (map_ok text_of (name_field p text))
 
--- the number at place f of line l, from low to below end
-abbrev pub number_at : ℕ → ℕ → ℕ → ℕ → List ℕ → Result ℕ LineFault
-number_at l f low end text = in_field (number_field l f text >>= value_in low end)
+-- the number at the place p, from low to below end
+abbrev pub number_at : Place → ℕ → ℕ → List ℕ → Result ℕ LineFault
+number_at p low end text = in_field (number_field p text >>= value_in low end)
 
 -- the goal value of a variable of this size: a dash, or a number below the size
 abbrev pub goal_in : ℕ → Plain → Result (Option ℕ) FieldFault
-goal_in size (name t l f) = map_ok Some (value_in 0 size (name t l f))
-goal_in size (number t l f) = map_ok Some (value_in 0 size (number t l f))
-goal_in size (dash l f) = Ok None
+goal_in size (name t p) = map_ok Some (value_in 0 size (name t p))
+goal_in size (number t p) = map_ok Some (value_in 0 size (number t p))
+goal_in size (dash p) = Ok None
 
-abbrev pub goal_at : ℕ → ℕ → ℕ → List ℕ → Result (Option ℕ) LineFault
-goal_at l f size text = in_field (number_or_dash l f text >>= goal_in size)
+abbrev pub goal_at : Place → ℕ → List ℕ → Result (Option ℕ) LineFault
+goal_at p size text = in_field (number_or_dash p text >>= goal_in size)
 
 abbrev pub variable_of : ℕ → List ℕ → List ℕ → List ℕ → List ℕ → Result Var LineFault
 variable_of l n z a g = do
-  called ← name_at l 2 n
-  size ← number_at l 3 2 17 z
-  start ← number_at l 4 0 size a
-  goal ← goal_at l 5 size g
+  called ← name_at (at l 2) n
+  size ← number_at (at l 3) 2 17 z
+  start ← number_at (at l 4) 0 size a
+  goal ← goal_at (at l 5) size g
   Ok (record { name = called; size = size; start = start; goal = goal })
 
 abbrev pub operator_of : ℕ → List ℕ → List ℕ → Result Placed LineFault
 operator_of l n c = do
-  called ← name_at l 2 n
-  cost ← number_at l 3 0 65536 c
+  called ← name_at (at l 2) n
+  cost ← number_at (at l 3) 0 65536 c
   Ok (record { line = l; oper = record { name = called; cost = cost; preconditions = []; effects = [] } })
 
 -- a variable and one of its values
 abbrev pub valued_of : ℕ → List Var → List ℕ → List ℕ → Result (ℕ × ℕ) LineFault
 valued_of l vs a b = do
-  v ← number_at l 2 0 (length vs) a
-  x ← number_at l 3 0 (slice_index (sizes vs) v) b
+  v ← number_at (at l 2) 0 (length vs) a
+  x ← number_at (at l 3) 0 (slice_index (sizes vs) v) b
   Ok (v, x)
 
 abbrev pub member : ℕ → List ℕ → Bool
-member v [] = false
-member v (x ∷ xs) = x == v || member v xs
+member v xs = list_any (λ x. x == v) xs
 
 -- xs with one more; each has a variable, by `of`
 abbrev pub add_valued : {X : Type 0} → (X → ℕ) → (ℕ × ℕ → X) → ℕ → List Var → List ℕ → List ℕ → List X → Result (List X) LineFault
 add_valued of make l vs a b xs =
     cond (nat_lt (length xs) 8)
-    (valued_of l vs a b >>= (λ p. cond (member p.0 (map of xs)) (Err (InField (Twice l 2))) (Ok (xs ++ make p ∷ []))))
+    (valued_of l vs a b >>= (λ p. cond (member p.0 (map of xs)) (Err (InField (Twice (at l 2)))) (Ok (xs ++ make p ∷ []))))
     (Err (Many l))
 
 abbrev pub make_precondition : ℕ × ℕ → Precondition
@@ -143,12 +144,12 @@ add_part l s f = part_place l s >>= (λ _. on_last (Order l) f s.opers >>= (λ o
 -- the variables of a T line, from its second field on, after those in vs
 abbrev pub indices_on : ℕ → ℕ → List ℕ → List (List ℕ) → Result (List ℕ) LineFault
 indices_on l n vs [] = Ok vs
-indices_on l n vs (t ∷ ts) = number_at l (length vs + 2) 0 n t >>= (λ v. indices_on l n (vs ++ v ∷ []) ts)
+indices_on l n vs (t ∷ ts) = number_at (at l (length vs + 2)) 0 n t >>= (λ v. indices_on l n (vs ++ v ∷ []) ts)
 
 -- no variable twice, after those in seen
 abbrev pub distinct_on : ℕ → List ℕ → List ℕ → Result (Unit {0}) LineFault
 distinct_on l seen [] = Ok tt
-distinct_on l seen (v ∷ vs) = cond (member v seen) (Err (InField (Twice l (length seen + 2)))) (distinct_on l (seen ++ v ∷ []) vs)
+distinct_on l seen (v ∷ vs) = cond (member v seen) (Err (InField (Twice (at l (length seen + 2))))) (distinct_on l (seen ++ v ∷ []) vs)
 
 abbrev pub with_pattern : Reading → List ℕ → Reading
 with_pattern s vs = record { vars = s.vars; opers = s.opers; patterns = s.patterns ++ vs ∷ [] }

@@ -5,7 +5,7 @@ ghost use Rattle.std.specs.Prelude.{◌≡◌};
 ghost use Rattle.cards.specs.declared.CardFault.TheVariants.{InLine, Memory};
 ghost use Rattle.cards.specs.Faults.{card_number, card_place};
 
-use fields::LineFault;
+use fields::{LineFault, Place};
 use std::alloc::{AllocError, AllocFailed};
 
 pub mod theorems;
@@ -30,23 +30,22 @@ impl CardFault {
             CardFault::Memory => None,
             CardFault::TooLong => Some(1),
             CardFault::InLine(e) => Some(e.number()),
-            CardFault::NoVariable => Some(8),
-            CardFault::NoEffect { .. } => Some(8),
+            CardFault::NoVariable | CardFault::NoEffect { .. } => Some(8),
             CardFault::TooManyStates => Some(9),
         }
     }
 
     // Line and field, both from 1, each 0 where it has none.
-    pub fn place(&self) -> (usize, usize)
+    pub fn place(&self) -> Place
         ensures { result ≡ card_place self.now }
     {
-        match self {
-            CardFault::Memory => (0, 0),
-            CardFault::TooLong => (0, 0),
+        match *self {
             CardFault::InLine(e) => e.place(),
-            CardFault::NoVariable => (0, 0),
-            CardFault::NoEffect { line } => (*line, 0),
-            CardFault::TooManyStates => (0, 0),
+            CardFault::NoEffect { line } => Place { line, field: 0 },
+            CardFault::Memory
+            | CardFault::TooLong
+            | CardFault::NoVariable
+            | CardFault::TooManyStates => Place { line: 0, field: 0 },
         }
     }
 }
@@ -71,6 +70,6 @@ impl<T: Drop> From<AllocFailed<T>> for CardFault {
     ghost from_gives = { λ _ r. r ≡ Memory };
 
     fn from(_refused: AllocFailed<T>) -> CardFault {
-        <CardFault as From<AllocError>>::from(AllocError)
+        CardFault::Memory
     }
 }

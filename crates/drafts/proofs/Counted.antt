@@ -1,61 +1,60 @@
 -- What is tested of a whole card: effects one operator after another, and the number of states up to the limit.
-use Rattle.std.proofs.Common.{◌≡◌, ℕ, zero, suc, ◌+◌, ◌*◌, ◌<◌, ◌≤◌, min, Bool, true, false, cond, eqb, leb, List, map, length, get_or, drop, Ok, Err, vec_items, vec_len, Result, sym, ap, ◌∙◌, ⊎_elim, mul_assoc, mul-zero, le-mul_of_pos_right, arith}
+use Rattle.std.proofs.Common.{◌≡◌, ℕ, zero, suc, ◌*◌, ◌<◌, ◌≤◌, min, Bool, true, false, cond, eqb, leb, List, [], ◌∷◌, map, Some, None, Ok, Err, vec_items, vec_len, Option, Result, refl, sym, ap, ◌∙◌, ⊎_elim, mul_assoc, mul-zero, mul-one, le-mul_of_pos_right, arith}
+use Rattle.std.specs.List.{find, fold}
 use native.Mathlib.Nat.{min-eq_left, min-eq_right}
-use Rattle.std.proofs.lemmas.List.{at_drop_more, at_drop_all}
 use Rattle.std.proofs.lemmas.Bool.{cond-true, cond-false, cases_lt, lt-leb}
 use Rattle.fields.specs.Fields.{plain, line_of}
 use Rattle.sas.specs.Model.{product}
 use Rattle.cards.specs.declared.CardFault.{CardFault}
 use Rattle.cards.specs.declared.CardFault.TheVariants.{NoVariable, NoEffect, TooManyStates}
 use Rattle.cards.specs.Content.{sizes}
-use Rattle.cards.specs.Reading.{none, effective, whole, ◌>>=◌}
+use Rattle.cards.specs.Reading.{effective, whole, ◌>>=◌}
 use Rattle.drafts.specs.View.{plain_var, placed, said}
 use Rattle.drafts.specs.declared.parts.Variable.{Variable}
 use Rattle.drafts.specs.declared.parts.DraftOperator.{DraftOperator}
 use Rattle.drafts.specs.declared.parts.Draft.{Draft}
 use Rattle.drafts.proofs.Lists.{count}
 
-effect_more : (xs : List DraftOperator) (i : ℕ) (o : DraftOperator) → i < length xs → o ≡ get_or xs i o → effective (map placed (drop i xs)) ≡ cond (none (vec_items o.effects)) (Err (NoEffect (line_of (plain o.name)))) (effective (map placed (drop (i + 1) xs)))
-effect_more xs i o h e =
-    at_drop_more (λ l. effective (map placed l)) xs i o h
-    ∙ ap (λ (p : DraftOperator). cond (none (vec_items p.effects)) (Err (NoEffect (line_of (plain p.name)))) (effective (map placed (drop (i + 1) xs)))) (sym e)
+-- whether an operator has no effect
+abbrev pub bare : DraftOperator → Bool
+bare o = eqb (vec_len o.effects) 0
 
--- an operator without an effect, and one with some
-pub effect_stop : (xs : List DraftOperator) (i : ℕ) (o : DraftOperator) → i < length xs → o ≡ get_or xs i o → true ≡ eqb (vec_len o.effects) 0 → effective (map placed (drop i xs)) ≡ Err (NoEffect (line_of (plain o.name)))
-effect_stop xs i o h e t = effect_more xs i o h e ∙ cond-true _ _ _ (ap (λ n. eqb n 0) (sym o.effects.ok.0) ∙ sym t)
+-- what the first operator without an effect makes of the card
+abbrev pub fault : Option DraftOperator → Result (Unit {0}) CardFault
+fault None = Ok tt
+fault (Some o) = Err (NoEffect (line_of (plain o.name)))
 
-pub effect_next : (xs : List DraftOperator) (i : ℕ) (o : DraftOperator) → i < length xs → o ≡ get_or xs i o → false ≡ eqb (vec_len o.effects) 0 → effective (map placed (drop i xs)) ≡ effective (map placed (drop (i + 1) xs))
-effect_next xs i o h e t = effect_more xs i o h e ∙ cond-false _ _ _ (ap (λ n. eqb n 0) (sym o.effects.ok.0) ∙ sym t)
+fault_first : (b : Bool) (o : DraftOperator) (r : Option DraftOperator) → fault (cond b (Some o) r) ≡ cond b (fault (Some o)) (fault r)
+fault_first true o r = refl
+fault_first false o r = refl
 
-pub effect_none : (xs : List DraftOperator) (i : ℕ) → length xs ≤ i → effective (map placed (drop i xs)) ≡ Ok tt
-effect_none xs i h = at_drop_all (λ l. effective (map placed l)) xs i h
+pub fault_found : (xs : List DraftOperator) → fault (find bare xs) ≡ effective (map placed xs)
+fault_found [] = refl
+fault_found (o ∷ os) =
+    fault_first (bare o) o (find bare os)
+    ∙ ap (cond (bare o) (fault (Some o))) (fault_found os)
+    ∙ ap (λ n. cond (eqb n 0) (fault (Some o)) (effective (map placed os))) o.effects.ok.0
 
 -- a factor past the limit may be cut
-capped : (n p : ℕ) → leb (n * p) 1048576 ≡ leb (min n 1048577 * p) 1048576
-capped n zero = ap (λ k. leb k 1048576) (mul-zero n ∙ sym (mul-zero (min n 1048577)))
+capped : (n p : ℕ) → leb (n * p) 1048576 ≡ leb (min n 4294967295 * p) 1048576
+capped n zero = ap (λ k. leb k 1048576) (mul-zero n ∙ sym (mul-zero (min n 4294967295)))
 capped n (suc p) =
     ⊎_elim
-    (λ l. let b : n ≤ 1048577 = omega arith in ap (λ k. leb (k * suc p) 1048576) (sym (min-eq_left b)))
+    (λ l. let b : n ≤ 4294967295 = omega arith in ap (λ k. leb (k * suc p) 1048576) (sym (min-eq_left b)))
     (λ l.
     let q : 0 < suc p = omega arith in
-    let m : min n 1048577 ≡ 1048577 = min-eq_right l in
+    let m : min n 4294967295 ≡ 4294967295 = min-eq_right l in
     let left : 1048576 < n * suc p = omega (arith, le-mul_of_pos_right n q) in
-    let right : 1048576 < 1048577 * suc p = omega arith in
+    let right : 1048576 < 4294967295 * suc p = omega arith in
     lt-leb _ _ left ∙ sym (ap (λ k. leb (k * suc p) 1048576) m ∙ lt-leb _ _ right))
-    (cases_lt n 1048577)
+    (cases_lt n 4294967295)
 
--- one more size
-pub states_more : (xs : List Variable) (i s t : ℕ) (d : Variable) → i < length xs → t ≡ min (s * (get_or xs i d).size) 1048577 → leb (s * product (sizes (map plain_var (drop i xs)))) 1048576 ≡ leb (t * product (sizes (map plain_var (drop (i + 1) xs)))) 1048576
-states_more xs i s t d h m =
-    let z : ℕ = (get_or xs i d).size in
-    let rest : ℕ = product (sizes (map plain_var (drop (i + 1) xs))) in
-    at_drop_more (λ l. leb (s * product (sizes (map plain_var l))) 1048576) xs i d h
-    ∙ ap (λ k. leb k 1048576) (sym (mul_assoc s z rest))
-    ∙ capped (s * z) rest
-    ∙ ap (λ k. leb (k * rest) 1048576) (sym m)
-
-pub states_none : (xs : List Variable) (i s : ℕ) → length xs ≤ i → leb (s * product (sizes (map plain_var (drop i xs)))) 1048576 ≡ leb (s * 1) 1048576
-states_none xs i s h = at_drop_all (λ l. leb (s * product (sizes (map plain_var l))) 1048576) xs i h
+-- the sizes multiplied, each product up to the largest u32, are within the limit just if their product is
+pub states_fold : (s : ℕ) (xs : List Variable) → leb (fold (λ (n : ℕ) (v : Variable). min (n * v.size) 4294967295) s xs) 1048576 ≡ leb (s * product (sizes (map plain_var xs))) 1048576
+states_fold s [] = ap (λ n. leb n 1048576) (sym (mul-one s))
+states_fold s (v ∷ xs) =
+    let rest : ℕ = product (sizes (map plain_var xs)) in
+    states_fold (min (s * v.size) 4294967295) xs ∙ sym (capped (s * v.size) rest) ∙ ap (λ k. leb k 1048576) (mul_assoc s v.size rest)
 
 -- a card without a variable
 pub whole_none : (d : Draft) → true ≡ eqb (vec_len d.variables) 0 → whole (said d) ≡ Err NoVariable

@@ -3,10 +3,8 @@ use Rattle.std.proofs.Common.{◌≡◌, ℕ, List, [], ◌∷◌, ◌++◌, map
 use Rattle.std.proofs.lemmas.List.{map_push}
 use Rattle.fields.specs.declared.faults.LineFault.{LineFault}
 use Rattle.fields.specs.declared.faults.LineFault.TheVariants.{Order}
-use Rattle.sas.specs.declared.Precondition.{Precondition}
-use Rattle.sas.specs.declared.Fact.{Fact}
-use Rattle.cards.specs.Reading.{Placed, Reading, ◌>>=◌, on_last, add_valued, part_place, add_part, with_opers, pattern_place, indices_on, distinct_on, with_pattern, add_pattern}
-use Rattle.drafts.specs.View.{plain_var, placed, said}
+use Rattle.cards.specs.Reading.{Placed, Reading, ◌>>=◌, on_last, part_place, add_part, with_opers, pattern_place, indices_on, distinct_on, with_pattern, add_pattern}
+use Rattle.drafts.specs.View.{placed, said}
 use Rattle.drafts.specs.declared.parts.Variable.{Variable}
 use Rattle.drafts.specs.declared.parts.DraftOperator.{DraftOperator}
 use Rattle.drafts.specs.declared.parts.Draft.{Draft}
@@ -21,21 +19,14 @@ on_last_lem e f [] x = refl
 on_last_lem e f (z ∷ []) x = bind_twice (f x) (λ y. y ∷ []) (λ ys. z ∷ ys)
 on_last_lem e f (z ∷ w ∷ zs) x = ap (λ r. r >>= (λ ys. Ok (z ∷ ys))) (on_last_lem e f (w ∷ zs) x) ∙ bind_twice (f x) (λ y. (w ∷ zs) ++ y ∷ []) (λ ys. z ∷ ys)
 
--- o with other preconditions, or other effects
-abbrev pub with_preconditions : Placed → List Precondition → Placed
-with_preconditions o ps = record { line = o.line; oper = record { name = o.oper.name; cost = o.oper.cost; preconditions = ps; effects = o.oper.effects } }
-
-abbrev pub with_effects : Placed → List Fact → Placed
-with_effects o fs = record { line = o.line; oper = record { name = o.oper.name; cost = o.oper.cost; preconditions = o.oper.preconditions; effects = fs } }
-
--- one more for the last operator o: r is what it makes of those that o has
-pub part_on : {X : Type 0} (of : X → ℕ) (make : ℕ × ℕ → X) (get : Placed → List X) (put : Placed → List X → Placed) (l : ℕ) (d : Draft) (a b : List ℕ) (rest : List DraftOperator) (o : DraftOperator) (vs : List Variable) (u : Unit {0}) (r : Result (List X) LineFault) → vs ≡ vec_items d.variables → vec_items d.operators ≡ rest ++ o ∷ [] → Ok u ≡ part_place l (said d) → add_valued of make l (map plain_var vs) a b (get (placed o)) ≡ r → add_part l (said d) (λ p. add_valued of make l (said d).vars a b (get p) >>= (λ xs. Ok (put p xs))) ≡ (r >>= (λ xs. Ok (with_opers (said d) (map placed rest ++ put (placed o) xs ∷ []))))
-part_on of make get put l d a b rest o vs u r ev e place q =
-    let f : Placed → Result Placed LineFault = λ p. add_valued of make l (said d).vars a b (get p) >>= (λ xs. Ok (put p xs)) in
-    ap (λ p. p >>= (λ _. on_last (Order l) f (said d).opers >>= (λ os. Ok (with_opers (said d) os)))) (sym place)
-    ∙ ap (λ ws. on_last (Order l) f ws >>= (λ os. Ok (with_opers (said d) os))) (ap (map placed) e ∙ map_push placed rest o)
-    ∙ ap (λ p. p >>= (λ os. Ok (with_opers (said d) os))) (on_last_lem (Order l) f (map placed rest) (placed o) ∙ ap (λ p. p >>= (λ xs. Ok (put (placed o) xs)) >>= (λ y. Ok (map placed rest ++ y ∷ []))) (ap (λ ws. add_valued of make l (map plain_var ws) a b (get (placed o))) (sym ev) ∙ q) ∙ bind_twice r (put (placed o)) (λ y. map placed rest ++ y ∷ []))
-    ∙ bind_twice r (λ xs. map placed rest ++ put (placed o) xs ∷ []) (with_opers (said d))
+-- the last operator o after f, which reads the variables
+pub part_on : (f : List Variable → Placed → Result Placed LineFault) (l : ℕ) (d : Draft) (rest : List DraftOperator) (o : DraftOperator) (vs : List Variable) (u : Unit {0}) (r : Result Placed LineFault) → vs ≡ vec_items d.variables → vec_items d.operators ≡ rest ++ o ∷ [] → Ok u ≡ part_place l (said d) → f vs (placed o) ≡ r → add_part l (said d) (f (vec_items d.variables)) ≡ (r >>= (λ p. Ok (with_opers (said d) (map placed rest ++ p ∷ []))))
+part_on f l d rest o vs u r ev e place q =
+    let g : Placed → Result Placed LineFault = f (vec_items d.variables) in
+    ap (λ p. p >>= (λ _. on_last (Order l) g (said d).opers >>= (λ os. Ok (with_opers (said d) os)))) (sym place)
+    ∙ ap (λ ws. on_last (Order l) g ws >>= (λ os. Ok (with_opers (said d) os))) (ap (map placed) e ∙ map_push placed rest o)
+    ∙ ap (λ p. p >>= (λ os. Ok (with_opers (said d) os))) (on_last_lem (Order l) g (map placed rest) (placed o) ∙ ap (λ p. p >>= (λ y. Ok (map placed rest ++ y ∷ []))) (ap (λ ws. f ws (placed o)) (sym ev) ∙ q))
+    ∙ bind_twice r (λ y. map placed rest ++ y ∷ []) (with_opers (said d))
 
 pub pattern_on : (l : ℕ) (s : Reading) (ts : List (List ℕ)) (n : ℕ) (u : Unit {0}) (r : Result (List ℕ) LineFault) → n ≡ length s.vars → Ok u ≡ pattern_place l s → indices_on l n [] ts ≡ r → add_pattern l s ts ≡ (r >>= (λ vs. distinct_on l [] vs >>= (λ _. Ok (with_pattern s vs))))
 pattern_on l s ts n u r m place f =

@@ -1,7 +1,8 @@
 -- Lists and vectors, as plain values.
-use Rattle.std.proofs.Common.{◌≡◌, ℕ, zero, suc, ◌+◌, ◌<◌, ◌≤◌, Bool, false, ◌||◌, eqb, List, [], ◌∷◌, map, length, get_or, drop, vec_items, vec_len, Vec, sym, refl, ap, ◌∙◌, arith}
+use Rattle.std.proofs.Common.{◌≡◌, ℕ, zero, suc, ◌<◌, ◌||◌, eqb, List, [], ◌∷◌, map, length, get_or, vec_items, vec_len, Vec, sym, refl, ap, ◌∙◌, arith}
 use Rattle.std.specs.declared.alloc.Global.{Global}
-use Rattle.std.proofs.lemmas.List.{length-map, at_drop_more, at_drop_all}
+use Rattle.std.proofs.lemmas.List.{length-map}
+use Rattle.std.specs.List.{list_any}
 use Rattle.cards.specs.Content.{sizes}
 use Rattle.cards.specs.Reading.{member}
 use Rattle.drafts.specs.View.{plain_var}
@@ -16,18 +17,7 @@ size_at [] v d h = absurd (omega arith)
 size_at (x ∷ xs) zero d h = refl
 size_at (x ∷ xs) (suc v) d h = size_at xs v d (omega arith)
 
-pub or_past : (t u : Bool) → t ≡ false → (t || u) ≡ u
-or_past t u e = ap (λ s. s || u) e
-
--- whether v is of one of the elements from i on
-pub of_more : {X : Type 0} (of : X → ℕ) (v : ℕ) (xs : List X) (i : ℕ) (x : X) → i < length xs → x ≡ get_or xs i x → member v (map of (drop i xs)) ≡ (eqb (of x) v || member v (map of (drop (i + 1) xs)))
-of_more of v xs i x h e = at_drop_more (λ l. member v (map of l)) xs i x h ∙ ap (λ y. eqb (of y) v || member v (map of (drop (i + 1) xs))) (sym e)
-
-pub of_none : {X : Type 0} (of : X → ℕ) (v : ℕ) (xs : List X) (i : ℕ) → length xs ≤ i → member v (map of (drop i xs)) ≡ false
-of_none of v xs i h = at_drop_all (λ l. member v (map of l)) xs i h
-
-pub member_more : (v : ℕ) (xs : List ℕ) (i : ℕ) → i < length xs → member v (drop i xs) ≡ (eqb (get_or xs i 0) v || member v (drop (i + 1) xs))
-member_more v xs i h = at_drop_more (member v) xs i 0 h
-
-pub member_none : (v : ℕ) (xs : List ℕ) (i : ℕ) → length xs ≤ i → member v (drop i xs) ≡ false
-member_none v xs i h = at_drop_all (member v) xs i h
+-- whether v is of one of the elements
+pub any_map : {X : Type 0} (of : X → ℕ) (v : ℕ) (xs : List X) → list_any (λ x. eqb (of x) v) xs ≡ member v (map of xs)
+any_map of v [] = refl
+any_map of v (x ∷ xs) = ap (λ t. eqb (of x) v || t) (any_map of v xs)

@@ -1,12 +1,12 @@
 -- Answers carried from one definition to another.
-use Rattle.std.proofs.Common.{◌≡◌, ℕ, ◌<◌, ◌≤◌, Bool, true, false, ltb, List, length, Ok, Err, Result, sym, refl, ap, ◌∙◌, arith}
-use Rattle.std.proofs.lemmas.Bool.{cond-true, le-leb, ltb-true}
+use Rattle.std.proofs.Common.{◌≡◌, ℕ, ◌+◌, ◌∷◌, ◌≤◌, List, length, Ok, Err, Result, sym, ap, ◌∙◌}
+use Rattle.std.proofs.lemmas.Bool.{cond-true, le-leb}
 use Rattle.fields.specs.Text.{pieces}
 use Rattle.fields.specs.declared.faults.LineFault.{LineFault}
 use Rattle.cards.specs.declared.CardFault.{CardFault}
 use Rattle.cards.specs.declared.CardFault.TheVariants.{Memory, TooLong, InLine, NoVariable, NoEffect, TooManyStates}
 use Rattle.cards.specs.Faults.{Tells}
-use Rattle.cards.specs.Reading.{Reading, place_for, in_line, read_on, nothing, whole, reading, ◌>>=◌}
+use Rattle.cards.specs.Reading.{Reading, in_line, line_on, read_on, nothing, whole, reading, ◌>>=◌}
 use Rattle.drafts.specs.Told.{TellsLine, GivesLine}
 
 -- a fault goes on, where what was asked has the same one
@@ -18,13 +18,14 @@ told_err V g NoVariable y w z f t = t
 told_err V g (NoEffect l) y w z f t = t
 told_err V g TooManyStates y w z f t = t
 
-pub place_room : (l n m : ℕ) (fits : Bool) → Ok tt ≡ place_for l fits (ltb n m) → n < m
-place_room l n m true e = go (ltb n m) refl e
-  where
-    go : (b : Bool) → ltb n m ≡ b → Ok tt ≡ place_for l true b → n < m
-    go true q h = ltb-true n m q
-    go false q h = absurd (grind arith)
-place_room l n m false e = absurd (grind arith)
+-- a fault of a line is that of the lines from it on
+pub line_err : (V : Type 0) {U : Type 0} (f : U → Reading) (e : CardFault) (y : Reading) (l : ℕ) (s : Reading) (text : List ℕ) (texts : List (List ℕ)) (w : Result Reading LineFault) → w ≡ read_on l s (text ∷ texts) → GivesLine {U = V} (Err e) y (line_on l s text) → TellsLine f (Err e) w
+line_err V f Memory y l s text texts w h t = tt
+line_err V f TooLong y l s text texts w h t = t
+line_err V f (InLine d) y l s text texts w h t = h ∙ ap (λ r. r >>= (λ u. read_on (l + 1) u texts)) t
+line_err V f NoVariable y l s text texts w h t = t
+line_err V f (NoEffect n) y l s text texts w h t = t
+line_err V f TooManyStates y l s text texts w h t = t
 
 -- a card that is not too long is read line by line, then tested as a whole
 pub reading_on : (bytes : List ℕ) (q : Result Reading LineFault) → length bytes ≤ 16384 → read_on 1 nothing (pieces 10 bytes) ≡ q → reading bytes ≡ (in_line q >>= whole)

@@ -9,9 +9,7 @@ ghost use Rattle.drafts.specs.Told.{TellsLine};
 
 use cards::CardFault;
 use fields::Pieces;
-use records::add_line;
 use std::alloc::Global;
-use whole::check_whole;
 
 mod parts;
 mod patterns;
@@ -33,11 +31,8 @@ fn read_lines<'a>(heap: Global, bytes: &'a [u8]) -> Result<Draft<'a>, CardFault>
         operators: Vec::new(heap),
         patterns: Vec::new(heap),
     };
-    let mut lines = Pieces::new(bytes, b'\n');
-    let mut line = 0;
-    while let Some(text) = lines.next() {
-        line += 1;
-        add_line(heap, &mut draft, line, text)?;
+    for (i, text) in Pieces::new(bytes, b'\n').enumerate() {
+        draft.add_line(heap, i + 1, text)?;
     }
     Ok(draft)
 }
@@ -50,6 +45,6 @@ pub fn draft<'a>(heap: Global, bytes: &'a [u8]) -> Result<Draft<'a>, CardFault>
         return Err(CardFault::TooLong);
     }
     let read = read_lines(heap, bytes)?;
-    check_whole(&read)?;
+    read.check()?;
     Ok(read)
 }

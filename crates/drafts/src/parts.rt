@@ -1,4 +1,6 @@
 // What a card said, as it was read. Names still borrow from the card.
+ghost use Rattle.std.specs.Prelude.{◌≤◌, vec_len};
+
 use fields::Field;
 use sas::{Fact, Precondition};
 
@@ -24,4 +26,5 @@ pub struct Draft<'a> {
     pub variables: Vec<Variable<'a>>,
     pub operators: Vec<DraftOperator<'a>>,
     pub patterns: Vec<Vec<u8>>,
+    pub ghost few_variables: { vec_len variables ≤ 16 },
 }

@@ -6,7 +6,7 @@ ghost use Rattle.drafts.specs.View.{said};
 use crate::parts::Draft;
 use fields::LineFault;
 
-fn place(line: usize, ordered: bool, room: bool) -> Result<(), LineFault>
+fn place_for(line: usize, ordered: bool, room: bool) -> Result<(), LineFault>
     ensures { result ≡ place_for line ordered room }
 {
     if !ordered {
@@ -18,31 +18,33 @@ fn place(line: usize, ordered: bool, room: bool) -> Result<(), LineFault>
     }
 }
 
-pub(crate) fn variable_place<'a>(draft: &Draft<'a>, line: usize) -> Result<(), LineFault>
-    ensures { result ≡ variable_place line (said draft.now) }
-{
-    place(
-        line,
-        draft.operators.is_empty() && draft.patterns.is_empty(),
-        draft.variables.len() < 16,
-    )
-}
+impl<'a> Draft<'a> {
+    pub(crate) fn variable_place(&self, line: usize) -> Result<(), LineFault>
+        ensures { result ≡ variable_place line (said self.now) }
+    {
+        place_for(
+            line,
+            self.operators.is_empty() && self.patterns.is_empty(),
+            self.variables.len() < 16,
+        )
+    }
 
-pub(crate) fn operator_place<'a>(draft: &Draft<'a>, line: usize) -> Result<(), LineFault>
-    ensures { result ≡ operator_place line (said draft.now) }
-{
-    place(line, draft.patterns.is_empty(), draft.operators.len() < 128)
-}
+    pub(crate) fn operator_place(&self, line: usize) -> Result<(), LineFault>
+        ensures { result ≡ operator_place line (said self.now) }
+    {
+        place_for(line, self.patterns.is_empty(), self.operators.len() < 128)
+    }
 
-// For a precondition or an effect.
-pub(crate) fn part_place<'a>(draft: &Draft<'a>, line: usize) -> Result<(), LineFault>
-    ensures { result ≡ part_place line (said draft.now) }
-{
-    place(line, draft.patterns.is_empty(), true)
-}
+    // For a precondition or an effect.
+    pub(crate) fn part_place(&self, line: usize) -> Result<(), LineFault>
+        ensures { result ≡ part_place line (said self.now) }
+    {
+        place_for(line, self.patterns.is_empty(), true)
+    }
 
-pub(crate) fn pattern_place<'a>(draft: &Draft<'a>, line: usize) -> Result<(), LineFault>
-    ensures { result ≡ pattern_place line (said draft.now) }
-{
-    place(line, true, draft.patterns.len() < 2)
+    pub(crate) fn pattern_place(&self, line: usize) -> Result<(), LineFault>
+        ensures { result ≡ pattern_place line (said self.now) }
+    {
+        place_for(line, true, self.patterns.len() < 2)
+    }
 }

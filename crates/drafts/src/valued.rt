@@ -1,14 +1,15 @@
 // Preconditions and effects: each gives a value to a variable, and an operator has at most 8, no variable twice.
-ghost use Rattle.std.specs.Prelude.{◌≡◌, ℕ, ◌<◌, ◌≤◌, map, length, slice_index};
+ghost use Rattle.std.specs.Prelude.{◌≡◌, ℕ, ◌<◌, ◌≤◌, List, map, length};
 ghost use Rattle.cards.specs.Content.{sizes};
-ghost use Rattle.cards.specs.Reading.{valued_of, member, add_valued, make_precondition, make_fact};
-ghost use Rattle.drafts.specs.View.{plain_var};
+ghost use Rattle.cards.specs.Reading.{Placed, valued_of, member, add_valued, make_precondition, make_fact};
+ghost use Rattle.drafts.specs.View.{plain_var, placed};
+ghost use Rattle.drafts.specs.Parts.{add_to, with_preconditions, with_effects};
 ghost use Rattle.drafts.specs.Told.{GivesLine};
 
-use crate::parts::Variable;
+use crate::parts::{DraftOperator, Variable};
 use crate::values::number_at;
 use cards::CardFault;
-use fields::{FieldFault, LineFault};
+use fields::{FieldFault, LineFault, Place, ValueTexts};
 use sas::{Fact, Precondition};
 
 pub(crate) trait Valued: Copy {
@@ -23,6 +24,24 @@ pub(crate) trait Valued: Copy {
         ensures { result ≡ of self.now };
 }
 
+// A part of an operator.
+pub(crate) trait Part: Valued {
+    // Those that an operator has, and the operator with others.
+    ghost parts: { Placed → List Self };
+
+    ghost with_parts: { Placed → List Self → Placed };
+
+    // One more for the operator.
+    fn add_to<'a>(
+        operator: &mut DraftOperator<'a>,
+        line: usize,
+        variables: &[Variable<'a>],
+        texts: ValueTexts<'a>,
+    ) -> Result<(), CardFault>
+        requires { length variables.now ≤ 16 }
+        ensures { GivesLine result (placed operator.new) (add_to Self.of Self.make parts with_parts line (map plain_var variables.now) texts.entry.variable.now texts.entry.value.now (placed operator.old)) };
+}
+
 impl Valued for Precondition {
     ghost of = { λ p. p.variable };
 
@@ -34,6 +53,21 @@ impl Valued for Precondition {
 
     fn variable(&self) -> u8 {
         self.variable
+    }
+}
+
+impl Part for Precondition {
+    ghost parts = { λ o. o.oper.preconditions };
+
+    ghost with_parts = { with_preconditions };
+
+    fn add_to<'a>(
+        operator: &mut DraftOperator<'a>,
+        line: usize,
+        variables: &[Variable<'a>],
+        texts: ValueTexts<'a>,
+    ) -> Result<(), CardFault> {
+        add_valued(line, variables, &mut operator.preconditions, texts)
     }
 }
 
@@ -51,56 +85,63 @@ impl Valued for Fact {
     }
 }
 
-fn size_at<'a>(variables: &[Variable<'a>], v: usize) -> u8
-    requires { v < length variables.now }
-    ensures { result ≡ slice_index (sizes (map plain_var variables.now)) v }
-{
-    variables[v].size
+impl Part for Fact {
+    ghost parts = { λ o. o.oper.effects };
+
+    ghost with_parts = { with_effects };
+
+    fn add_to<'a>(
+        operator: &mut DraftOperator<'a>,
+        line: usize,
+        variables: &[Variable<'a>],
+        texts: ValueTexts<'a>,
+    ) -> Result<(), CardFault> {
+        add_valued(line, variables, &mut operator.effects, texts)
+    }
 }
 
 // A variable and one of its values.
 fn valued_of<'a>(
     line: usize,
     variables: &[Variable<'a>],
-    variable: &'a [u8],
-    value: &'a [u8],
+    texts: ValueTexts<'a>,
 ) -> Result<(u8, u8), LineFault>
     requires { length variables.now ≤ 16 }
-    ensures { result ≡ valued_of line (map plain_var variables.now) variable.now value.now }
+    ensures { result ≡ valued_of line (map plain_var variables.now) texts.entry.variable.now texts.entry.value.now }
 {
-    let v = number_at(variable, line, 2, 0, variables.len() as u32)?;
-    let size = size_at(variables, v as usize);
-    let x = number_at(value, line, 3, 0, u32::from(size))?;
+    let v = number_at(
+        texts.variable,
+        Place { line, field: 2 },
+        0,
+        variables.len() as u32,
+    )?;
+    let size = variables[v as usize].size;
+    let x = number_at(texts.value, Place { line, field: 3 }, 0, u32::from(size))?;
     Ok((v as u8, x as u8))
 }
 
 fn has<T: Valued>(parts: &[T], v: u8) -> bool
     ensures { result ≡ member v (map T.Valued.of parts.now) }
 {
-    for p in parts {
-        if p.variable() == v {
-            return true;
-        }
-    }
-    false
+    parts.iter().any(|p| p.variable() == v)
 }
 
-pub(crate) fn add_valued<'a, T: Valued>(
+fn add_valued<'a, T: Valued>(
     line: usize,
     variables: &[Variable<'a>],
     parts: &mut Vec<T>,
-    variable: &'a [u8],
-    value: &'a [u8],
+    texts: ValueTexts<'a>,
 ) -> Result<(), CardFault>
     requires { length variables.now ≤ 16 }
-    ensures { GivesLine result parts.new.items (add_valued T.Valued.of T.Valued.make line (map plain_var variables.now) variable.now value.now parts.old.items) }
+    ensures { GivesLine result parts.new.items (add_valued T.Valued.of T.Valued.make line (map plain_var variables.now) texts.entry.variable.now texts.entry.value.now parts.old.items) }
 {
     if parts.len() >= 8 {
         return Err(CardFault::InLine(LineFault::Many { line }));
     }
-    let (v, x) = valued_of(line, variables, variable, value)?;
+    let (v, x) = valued_of(line, variables, texts)?;
     if has(parts.as_slice(), v) {
-        return Err(CardFault::InLine(LineFault::InField(FieldFault::Twice { line, field: 2 })));
+        let place = Place { line, field: 2 };
+        return Err(CardFault::InLine(LineFault::InField(FieldFault::Twice(place))));
     }
     parts.push(T::new(v, x))?;
     Ok(())

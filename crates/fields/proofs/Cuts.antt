@@ -1,9 +1,8 @@
--- The pieces of a text, from where the first separator stands; and a line that is cut.
-use Rattle.std.proofs.Common.{◌≡◌, ℕ, zero, suc, ◌+◌, ◌-◌, ◌<◌, ◌≤◌, true, false, eqb, List, [], ◌∷◌, length, get_or, take, drop, sym, refl, ap, ◌∙◌, add-one, arith}
+-- The pieces of a text, from where the first separator stands.
+use Rattle.std.proofs.Common.{◌≡◌, ℕ, zero, suc, ◌+◌, ◌-◌, ◌<◌, ◌≤◌, eqb, List, [], ◌∷◌, length, get_or, take, drop, refl, ap, ◌∙◌, add-one, arith}
 use Rattle.std.proofs.lemmas.List.{take_rest}
 use Rattle.std.proofs.lemmas.Bool.{cond-true, cond-false, cond_both, eq-eqb, ne_eqb}
-use Rattle.fields.specs.Text.{tidy, pieces, onto}
-use Rattle.fields.specs.Lines.{by_letter, by_fields, skipped, cut_line}
+use Rattle.fields.specs.Text.{pieces, onto}
 
 pub piece_cut : (s : ℕ) (xs : List ℕ) (n : ℕ) → n < length xs → ((k : ℕ) → k < n → get_or xs k 0 ≡ s → ⊥) → get_or xs n 0 ≡ s → pieces s xs ≡ take n xs ∷ pieces s (drop (suc n) xs)
 piece_cut s [] n h b f = absurd (omega arith)
@@ -30,7 +29,3 @@ pieces_count s (x ∷ xs) =
     cond_both (eqb x s) ([] ∷ pieces s xs) (onto x (pieces s xs)) (λ ps. length ps ≤ length (x ∷ xs) + 1)
     (λ e. omega (arith, pieces_count s xs))
     (λ e. onto_within x (pieces s xs) (length xs) (pieces_count s xs))
-
--- a line that is neither untidy nor skipped goes by its first field
-pub cut_on : (l : ℕ) (text first : List ℕ) (rest : List (List ℕ)) → true ≡ tidy text → false ≡ skipped text → pieces 9 text ≡ first ∷ rest → by_letter l first rest ≡ cut_line l text
-cut_on l text first rest t s e = sym (cond-true _ _ _ (sym t) ∙ cond-false _ _ _ (sym s) ∙ ap (by_fields l) e)

@@ -2,7 +2,8 @@
 use Rattle.std.proofs.Common.{◌≡◌, ℕ, ◌+◌, ◌-◌, ◌*◌, ◌<◌, ◌≤◌, Bool, true, false, cond, ◌&&◌, List, [], ◌∷◌, length, get_or, drop, is_some, Some, None, Option, sym, refl, ap, ◌∙◌, ⊎_elim, arith}
 use Rattle.std.proofs.lemmas.List.{at_drop_more, at_drop_all}
 use Rattle.std.proofs.lemmas.Bool.{cond-true, cond-false, ne_eqb, lt-leb, cases_Bool, and_left}
-use Rattle.fields.specs.Text.{between, all_bytes, digits_on, numeral}
+use Rattle.std.specs.List.{list_all}
+use Rattle.fields.specs.Text.{between, digits_on, numeral}
 use Rattle.fields.specs.Within.{within}
 
 -- what `digit` answers
@@ -31,15 +32,15 @@ pub digits_none : (n : ℕ) (xs : List ℕ) (i : ℕ) → length xs ≤ i → di
 digits_none n xs i h = at_drop_all (digits_on n) xs i h
 
 -- digits only
-all_digits : (n : ℕ) (cs : List ℕ) → is_some (digits_on n cs) ≡ all_bytes (between 48 57) cs
+all_digits : (n : ℕ) (cs : List ℕ) → is_some (digits_on n cs) ≡ list_all (between 48 57) cs
 all_digits n [] = refl
 all_digits n (c ∷ cs) =
     ⊎_elim
-    (λ e. ap is_some (cond-true _ _ _ e) ∙ all_digits (10 * n + (c - 48)) cs ∙ sym (ap (λ t. t && all_bytes (between 48 57) cs) e))
+    (λ e. ap is_some (cond-true _ _ _ e) ∙ all_digits (10 * n + (c - 48)) cs ∙ sym (ap (λ t. t && list_all (between 48 57) cs) e))
     (λ e. ap is_some (cond-false _ _ _ e) ∙ sym (and_left _ _ e))
     (cases_Bool (between 48 57 c))
 
-pub numeral_all : (xs : List ℕ) → 0 < length xs → (1 < length xs → get_or xs 0 0 ≡ 48 → ⊥) → is_some (numeral xs) ≡ all_bytes (between 48 57) xs
+pub numeral_all : (xs : List ℕ) → 0 < length xs → (1 < length xs → get_or xs 0 0 ≡ 48 → ⊥) → is_some (numeral xs) ≡ list_all (between 48 57) xs
 numeral_all [] h z = absurd (omega arith)
 numeral_all (c ∷ []) h z = all_digits 0 (c ∷ [])
 numeral_all (c ∷ d ∷ ds) h z = ap is_some (cond-false _ _ _ (ne_eqb c 48 (z (omega arith)))) ∙ all_digits 0 (c ∷ d ∷ ds)

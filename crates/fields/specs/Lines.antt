@@ -2,8 +2,10 @@
 use Rattle.std.specs.Prelude.{ℕ, Bool, true, cond, List, [], ◌∷◌, Some, None, Ok, Err, Option, Result, ◌==◌}
 use Rattle.fields.specs.Text.{pieces, tidy}
 use Rattle.fields.specs.Cursor.{left}
+use Rattle.fields.specs.Fields.{at}
 use Rattle.fields.specs.declared.lines.Record.{Record}
 use Rattle.fields.specs.declared.lines.Record.TheVariants as records
+use Rattle.fields.specs.declared.place.Place.{Place}
 use Rattle.fields.specs.declared.faults.FieldFault.{FieldFault}
 use Rattle.fields.specs.declared.faults.FieldFault.TheVariants.{NoName, NoNumber, Twice}
 use Rattle.fields.specs.declared.faults.LineFault.{LineFault}
@@ -18,10 +20,10 @@ pub data Cut : Type 0 where
   pattern : List (List ℕ) → Cut
 
 abbrev pub plain_record : Record → Cut
-plain_record (records.Variable n s a g) = variable n.now s.now a.now g.now
+plain_record (records.Variable t) = variable t.name.now t.size.now t.start.now t.goal.now
 plain_record (records.Operator n c) = operator n.now c.now
-plain_record (records.Precondition v w) = precondition v.now w.now
-plain_record (records.Effect v w) = effect v.now w.now
+plain_record (records.Precondition t) = precondition t.variable.now t.value.now
+plain_record (records.Effect t) = effect t.variable.now t.value.now
 plain_record (records.Pattern vs) = pattern (left vs)
 
 abbrev pub plain_some : Option Record → Option Cut
@@ -77,9 +79,9 @@ cut_line l text = cond (tidy text) (cond (skipped text) (Ok None) (by_fields l (
 
 -- the number of a fault
 abbrev pub field_number : FieldFault → ℕ
-field_number (NoName l f) = 6
-field_number (NoNumber l f) = 6
-field_number (Twice l f) = 7
+field_number (NoName p) = 6
+field_number (NoNumber p) = 6
+field_number (Twice p) = 7
 
 abbrev pub line_number : LineFault → ℕ
 line_number (Bytes l) = 2
@@ -89,14 +91,14 @@ line_number (Many l) = 5
 line_number (InField e) = field_number e
 
 -- the line of a fault, and its field, 0 where the whole line is meant
-abbrev pub field_place : FieldFault → ℕ × ℕ
-field_place (NoName l f) = (l, f)
-field_place (NoNumber l f) = (l, f)
-field_place (Twice l f) = (l, f)
+abbrev pub field_place : FieldFault → Place
+field_place (NoName p) = p
+field_place (NoNumber p) = p
+field_place (Twice p) = p
 
-abbrev pub line_place : LineFault → ℕ × ℕ
-line_place (Bytes l) = (l, 0)
-line_place (Shape l) = (l, 0)
-line_place (Order l) = (l, 0)
-line_place (Many l) = (l, 0)
+abbrev pub line_place : LineFault → Place
+line_place (Bytes l) = at l 0
+line_place (Shape l) = at l 0
+line_place (Order l) = at l 0
+line_place (Many l) = at l 0
 line_place (InField e) = field_place e

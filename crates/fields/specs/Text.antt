@@ -1,5 +1,6 @@
 -- Bytes, the pieces between separators, names and numerals.
-use Rattle.std.specs.Prelude.{ℕ, ◌+◌, ◌-◌, ◌*◌, Bool, true, cond, ◌&&◌, ◌||◌, List, [], ◌∷◌, length, Some, None, Option, ◌==◌, nat_le}
+use Rattle.std.specs.Prelude.{ℕ, ◌+◌, ◌-◌, ◌*◌, Bool, cond, ◌&&◌, ◌||◌, List, [], ◌∷◌, length, Some, None, Option, ◌==◌, nat_le}
+use Rattle.std.specs.List.{list_all}
 
 -- b in front of the first piece
 abbrev pub onto : ℕ → List (List ℕ) → List (List ℕ)
@@ -14,21 +15,17 @@ pieces s (b ∷ bs) = cond (b == s) ([] ∷ pieces s bs) (onto b (pieces s bs))
 abbrev pub between : ℕ → ℕ → ℕ → Bool
 between low high b = nat_le low b && nat_le b high
 
-abbrev pub all_bytes : (ℕ → Bool) → List ℕ → Bool
-all_bytes p [] = true
-all_bytes p (b ∷ bs) = p b && all_bytes p bs
-
 -- a tab, or a byte from 32 to 126
 abbrev pub tidy_byte : ℕ → Bool
 tidy_byte b = b == 9 || between 32 126 b
 
 -- what every line keeps: at most 200 bytes, each of them tidy
 abbrev pub tidy : List ℕ → Bool
-tidy bs = nat_le (length bs) 200 && all_bytes tidy_byte bs
+tidy bs = nat_le (length bs) 200 && list_all tidy_byte bs
 
 -- 1 to 16 bytes of 33 to 126
 abbrev pub is_name : List ℕ → Bool
-is_name bs = between 1 16 (length bs) && all_bytes (between 33 126) bs
+is_name bs = between 1 16 (length bs) && list_all (between 33 126) bs
 
 -- the number that digits write, after the number n
 abbrev pub digits_on : ℕ → List ℕ → Option ℕ

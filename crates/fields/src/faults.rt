@@ -3,11 +3,13 @@ ghost use Rattle.std.specs.Prelude.{◌≡◌};
 ghost use Rattle.fields.specs.Lines.{field_number, field_place, line_number, line_place};
 ghost use Rattle.fields.specs.declared.faults.LineFault.TheVariants.{InField};
 
+use crate::place::Place;
+
 #[derive(Clone, Copy)]
 pub enum FieldFault {
-    NoName { line: usize, field: usize },
-    NoNumber { line: usize, field: usize },
-    Twice { line: usize, field: usize },
+    NoName(Place),
+    NoNumber(Place),
+    Twice(Place),
 }
 
 #[derive(Clone, Copy)]
@@ -25,19 +27,18 @@ impl FieldFault {
         ensures { result ≡ field_number self.now }
     {
         match self {
-            FieldFault::NoName { .. } | FieldFault::NoNumber { .. } => 6,
-            FieldFault::Twice { .. } => 7,
+            FieldFault::NoName(_) | FieldFault::NoNumber(_) => 6,
+            FieldFault::Twice(_) => 7,
         }
     }
 
-    // The line and the field, both from 1.
-    pub fn place(&self) -> (usize, usize)
+    pub fn place(&self) -> Place
         ensures { result ≡ field_place self.now }
     {
-        match self {
-            FieldFault::NoName { line, field } => (*line, *field),
-            FieldFault::NoNumber { line, field } => (*line, *field),
-            FieldFault::Twice { line, field } => (*line, *field),
+        match *self {
+            FieldFault::NoName(place) | FieldFault::NoNumber(place) | FieldFault::Twice(place) => {
+                place
+            }
         }
     }
 }
@@ -56,15 +57,14 @@ impl LineFault {
         }
     }
 
-    // The line, from 1, and the field, 0 where the whole line is meant.
-    pub fn place(&self) -> (usize, usize)
+    pub fn place(&self) -> Place
         ensures { result ≡ line_place self.now }
     {
-        match self {
-            LineFault::Bytes { line } => (*line, 0),
-            LineFault::Shape { line } => (*line, 0),
-            LineFault::Order { line } => (*line, 0),
-            LineFault::Many { line } => (*line, 0),
+        match *self {
+            LineFault::Bytes { line }
+            | LineFault::Shape { line }
+            | LineFault::Order { line }
+            | LineFault::Many { line } => Place { line, field: 0 },
             LineFault::InField(e) => e.place(),
         }
     }

@@ -6,23 +6,13 @@ ghost use Rattle.fields.specs.Fields.{plain, text_of, line_of, name_field, numbe
 ghost use Rattle.fields.specs.Lines.{map_ok};
 
 use crate::faults::FieldFault;
+use crate::place::Place;
 
 #[derive(Clone, Copy)]
 pub enum Field<'a> {
-    Name {
-        text: &'a [u8],
-        line: usize,
-        field: usize,
-    },
-    Number {
-        digits: &'a [u8],
-        line: usize,
-        field: usize,
-    },
-    Dash {
-        line: usize,
-        field: usize,
-    },
+    Name { text: &'a [u8], place: Place },
+    Number { digits: &'a [u8], place: Place },
+    Dash { place: Place },
 }
 
 impl<'a> Field<'a> {
@@ -32,16 +22,11 @@ impl<'a> Field<'a> {
         ensures bounded { IfOk result (λ v. v < end) }
     {
         match *self {
-            Field::Number {
-                digits,
-                line,
-                field,
-            } => match number(digits, end) {
+            Field::Number { digits, place } => match number(digits, end) {
                 Some(n) if low <= n && n < end => Ok(n),
-                _ => Err(FieldFault::NoNumber { line, field }),
+                _ => Err(FieldFault::NoNumber(place)),
             },
-            Field::Name { line, field, .. } => Err(FieldFault::NoNumber { line, field }),
-            Field::Dash { line, field } => Err(FieldFault::NoNumber { line, field }),
+            Field::Name { place, .. } | Field::Dash { place } => Err(FieldFault::NoNumber(place)),
         }
     }
 
@@ -50,8 +35,7 @@ impl<'a> Field<'a> {
         ensures { result.now ≡ text_of (plain self.now) }
     {
         match *self {
-            Field::Name { text, .. } => text,
-            Field::Number { digits, .. } => digits,
+            Field::Name { text, .. } | Field::Number { digits: text, .. } => text,
             Field::Dash { .. } => &[],
         }
     }
@@ -60,47 +44,42 @@ impl<'a> Field<'a> {
         ensures { result ≡ line_of (plain self.now) }
     {
         match *self {
-            Field::Name { line, .. } => line,
-            Field::Number { line, .. } => line,
-            Field::Dash { line, .. } => line,
+            Field::Name { place, .. } | Field::Number { place, .. } | Field::Dash { place } => {
+                place.line
+            }
         }
     }
 }
 
-pub fn name_field<'a>(text: &'a [u8], line: usize, field: usize) -> Result<Field<'a>, FieldFault>
-    ensures { map_ok plain result ≡ name_field line field text.now }
+pub fn name_field<'a>(text: &'a [u8], place: Place) -> Result<Field<'a>, FieldFault>
+    ensures { map_ok plain result ≡ name_field place text.now }
 {
     if is_name(text) {
-        Ok(Field::Name { text, line, field })
+        Ok(Field::Name { text, place })
     } else {
-        Err(FieldFault::NoName { line, field })
+        Err(FieldFault::NoName(place))
     }
 }
 
-pub fn number_field<'a>(text: &'a [u8], line: usize, field: usize) -> Result<Field<'a>, FieldFault>
-    ensures { map_ok plain result ≡ number_field line field text.now }
+pub fn number_field<'a>(text: &'a [u8], place: Place) -> Result<Field<'a>, FieldFault>
+    ensures { map_ok plain result ≡ number_field place text.now }
 {
     if is_numeral(text) {
         Ok(Field::Number {
             digits: text,
-            line,
-            field,
+            place,
         })
     } else {
-        Err(FieldFault::NoNumber { line, field })
+        Err(FieldFault::NoNumber(place))
     }
 }
 
-pub fn number_or_dash<'a>(
-    text: &'a [u8],
-    line: usize,
-    field: usize,
-) -> Result<Field<'a>, FieldFault>
-    ensures { map_ok plain result ≡ number_or_dash line field text.now }
+pub fn number_or_dash<'a>(text: &'a [u8], place: Place) -> Result<Field<'a>, FieldFault>
+    ensures { map_ok plain result ≡ number_or_dash place text.now }
 {
     match text {
-        [b'-'] => Ok(Field::Dash { line, field }),
-        _ => number_field(text, line, field),
+        [b'-'] => Ok(Field::Dash { place }),
+        _ => number_field(text, place),
     }
 }
 
@@ -113,15 +92,7 @@ fn name_byte(b: u8) -> bool
 fn is_name(text: &[u8]) -> bool
     ensures { result ≡ is_name text.now }
 {
-    if text.is_empty() || text.len() > 16 {
-        return false;
-    }
-    for b in text {
-        if !name_byte(*b) {
-            return false;
-        }
-    }
-    true
+    (1..=16).contains(&text.len()) && text.iter().all(|b| name_byte(*b))
 }
 
 fn is_digit(b: u8) -> bool
@@ -143,12 +114,7 @@ fn is_numeral(text: &[u8]) -> bool
     if text.is_empty() || text.len() > 1 && text[0] == b'0' {
         return false;
     }
-    for b in text {
-        if !is_digit(*b) {
-            return false;
-        }
-    }
-    true
+    text.iter().all(|b| is_digit(*b))
 }
 
 // The number that `text` writes, if it is a decimal numeral of at most `limit`.

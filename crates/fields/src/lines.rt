@@ -8,28 +8,27 @@ use crate::faults::LineFault;
 use crate::pieces::Pieces;
 
 #[derive(Clone, Copy)]
+pub struct VariableTexts<'a> {
+    pub name: &'a [u8],
+    pub size: &'a [u8],
+    pub start: &'a [u8],
+    pub goal: &'a [u8],
+}
+
+// A variable and one of its values.
+#[derive(Clone, Copy)]
+pub struct ValueTexts<'a> {
+    pub variable: &'a [u8],
+    pub value: &'a [u8],
+}
+
+#[derive(Clone, Copy)]
 pub enum Record<'a> {
-    Variable {
-        name: &'a [u8],
-        size: &'a [u8],
-        start: &'a [u8],
-        goal: &'a [u8],
-    },
-    Operator {
-        name: &'a [u8],
-        cost: &'a [u8],
-    },
-    Precondition {
-        variable: &'a [u8],
-        value: &'a [u8],
-    },
-    Effect {
-        variable: &'a [u8],
-        value: &'a [u8],
-    },
-    Pattern {
-        variables: Pieces<'a>,
-    },
+    Variable(VariableTexts<'a>),
+    Operator { name: &'a [u8], cost: &'a [u8] },
+    Precondition(ValueTexts<'a>),
+    Effect(ValueTexts<'a>),
+    Pattern { variables: Pieces<'a> },
 }
 
 // The record that stands on a line, or nothing.
@@ -44,8 +43,8 @@ pub fn cut_line<'a>(line: usize, text: &'a [u8]) -> Result<Option<Record<'a>>, L
     }
     let mut fields = Pieces::new(text, b'\t');
     match fields.next() {
-        Some(first) => by_first(line, first, fields),
-        None => Err(LineFault::Shape { line }),
+        Some([letter]) => by_letter(line, char::from(*letter), fields),
+        _ => Err(LineFault::Shape { line }),
     }
 }
 
@@ -58,34 +57,13 @@ fn tidy_byte(b: u8) -> bool
 fn is_tidy(text: &[u8]) -> bool
     ensures { result ≡ tidy text.now }
 {
-    if text.len() > 200 {
-        return false;
-    }
-    for b in text {
-        if !tidy_byte(*b) {
-            return false;
-        }
-    }
-    true
+    text.len() <= 200 && text.iter().all(|b| tidy_byte(*b))
 }
 
 fn is_skipped(text: &[u8]) -> bool
     ensures { result ≡ skipped text.now }
 {
     matches!(text, [] | [b'#', ..])
-}
-
-fn by_first<'a>(
-    line: usize,
-    first: &'a [u8],
-    fields: Pieces<'a>,
-) -> Result<Option<Record<'a>>, LineFault>
-    ensures { map_ok plain_some result ≡ by_letter line first.now (left fields.entry) }
-{
-    match first {
-        [b] => by_letter(line, char::from(*b), fields),
-        _ => Err(LineFault::Shape { line }),
-    }
 }
 
 fn by_letter<'a>(
@@ -103,11 +81,11 @@ fn by_letter<'a>(
         }
         'R' => {
             let (variable, value) = two_fields(line, fields)?;
-            Ok(Some(Record::Precondition { variable, value }))
+            Ok(Some(Record::Precondition(ValueTexts { variable, value })))
         }
         'E' => {
             let (variable, value) = two_fields(line, fields)?;
-            Ok(Some(Record::Effect { variable, value }))
+            Ok(Some(Record::Effect(ValueTexts { variable, value })))
         }
         'T' => some_fields(line, fields),
         _ => Err(LineFault::Shape { line }),
@@ -117,41 +95,31 @@ fn by_letter<'a>(
 fn four_fields<'a>(line: usize, mut fields: Pieces<'a>) -> Result<Option<Record<'a>>, LineFault>
     ensures { map_ok plain_some result ≡ four line (left fields.entry) }
 {
-    let Some(name) = fields.next() else {
-        return Err(LineFault::Shape { line });
-    };
-    let Some(size) = fields.next() else {
-        return Err(LineFault::Shape { line });
-    };
-    let Some(start) = fields.next() else {
-        return Err(LineFault::Shape { line });
-    };
-    let Some(goal) = fields.next() else {
-        return Err(LineFault::Shape { line });
-    };
+    let fault = LineFault::Shape { line };
+    let name = fields.next().ok_or(fault)?;
+    let size = fields.next().ok_or(fault)?;
+    let start = fields.next().ok_or(fault)?;
+    let goal = fields.next().ok_or(fault)?;
     match fields.next() {
-        None => Ok(Some(Record::Variable {
+        None => Ok(Some(Record::Variable(VariableTexts {
             name,
             size,
             start,
             goal,
-        })),
-        Some(_) => Err(LineFault::Shape { line }),
+        }))),
+        Some(_) => Err(fault),
     }
 }
 
 fn two_fields<'a>(line: usize, mut fields: Pieces<'a>) -> Result<(&'a [u8], &'a [u8]), LineFault>
     ensures { (make : List ℕ → List ℕ → Cut) → map_ok (λ t. Some (make t.0.now t.1.now)) result ≡ two make line (left fields.entry) }
 {
-    let Some(a) = fields.next() else {
-        return Err(LineFault::Shape { line });
-    };
-    let Some(b) = fields.next() else {
-        return Err(LineFault::Shape { line });
-    };
+    let fault = LineFault::Shape { line };
+    let a = fields.next().ok_or(fault)?;
+    let b = fields.next().ok_or(fault)?;
     match fields.next() {
         None => Ok((a, b)),
-        Some(_) => Err(LineFault::Shape { line }),
+        Some(_) => Err(fault),
     }
 }
 

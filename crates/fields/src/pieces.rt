@@ -1,5 +1,6 @@
 // The pieces of a text between the bytes `at`, one after another.
-ghost use Rattle.std.specs.Prelude.{◌≡◌, ℕ, ◌<◌, ◌≤◌, [], ◌∷◌, length, MatchOption, ◌≢◌, slice_index};
+ghost use Rattle.std.specs.Prelude.{◌≡◌};
+ghost use Rattle.std.specs.Iterator.{YieldsFirstRef, item_count};
 ghost use Rattle.fields.specs.Text.{pieces};
 ghost use Rattle.fields.specs.Cursor.{left};
 
@@ -18,32 +19,26 @@ impl<'a> Pieces<'a> {
             at,
         }
     }
-
-    // The next piece, if one is left.
-    pub fn next(&mut self) -> Option<&'a [u8]>
-        ensures { MatchOption result (left self.old ≡ []) (λ p. left self.old ≡ p.now ∷ left self.new) }
-    {
-        let text = self.rest?;
-        let n = find(text, self.at);
-        if n < text.len() {
-            self.rest = Some(&text[n + 1..]);
-        } else {
-            self.rest = None;
-        }
-        Some(&text[0..n])
-    }
 }
 
-// The index of the first byte `b`, or the length.
-fn find(text: &[u8], b: u8) -> usize
-    ensures within { result ≤ length text.now }
-    ensures before { (k : ℕ) → k < result → slice_index text.now k ≢ b }
-    ensures found { result < length text.now → slice_index text.now result ≡ b }
-{
-    for (i, x) in text.iter().enumerate() {
-        if *x == b {
-            return i;
+impl<'a> Iterator for Pieces<'a> {
+    type Item = &'a [u8];
+
+    ghost next_gives = { YieldsFirstRef left };
+
+    ghost remaining = { item_count left };
+
+    fn next(&mut self) -> Option<&'a [u8]> {
+        let text = self.rest?;
+        match text.iter().position(|b| *b == self.at) {
+            Some(n) => {
+                self.rest = Some(&text[n + 1..]);
+                Some(&text[..n])
+            }
+            None => {
+                self.rest = None;
+                Some(text)
+            }
         }
     }
-    text.len()
 }

@@ -10,11 +10,11 @@ returns-in_err-read c =
     let p = err_from_is_err_and c.from_residual.result c.from_residual.ensures.1 in
     rw (p.1, p.2) (reading_err said _ c.args.bytes.now (omega arith) c.in_err-read.ensures)
 
-pub returns-in_err-check_whole : goal.returns-in_err-check_whole
-returns-in_err-check_whole c =
-    let p = err_from_is_err_and c.from_residual-in_err-check_whole.result c.from_residual-in_err-check_whole.ensures.1 in
-    rw (p.1, p.2) (reading_whole said _ c.args.bytes.now (said c.in_ok-read.read) (omega arith) c.in_ok-read.ensures c.in_err-check_whole.ensures)
+pub returns-in_err-check : goal.returns-in_err-check
+returns-in_err-check c =
+    let p = err_from_is_err_and c.from_residual-in_err-check.result c.from_residual-in_err-check.ensures.1 in
+    rw (p.1, p.2) (reading_whole said _ c.args.bytes.now (said c.in_ok-read.read) (omega arith) c.in_ok-read.ensures c.in_err-check.ensures)
 
 pub returns : goal.returns
 returns c =
-    reading_on c.args.bytes.now (Ok (said c.in_ok-read.read)) (omega arith) c.in_ok-read.ensures ∙ sym c.in_ok-check_whole.ensures
+    reading_on c.args.bytes.now (Ok (said c.in_ok-read.read)) (omega arith) c.in_ok-read.ensures ∙ sym c.in_ok-check.ensures

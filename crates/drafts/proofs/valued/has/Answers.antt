@@ -1,16 +1,10 @@
 -- A variable is looked for among those of some parts.
-use Rattle.std.proofs.Common.{sym, ◌∙◌}
-use Rattle.std.proofs.lemmas.Bool.{eq-eqb, ne_eqb, or_left}
-use Rattle.drafts.proofs.Lists.{of_more, of_none, or_past}
+use Rattle.std.proofs.Common.{eqb, ◌∙◌, rules, tests}
+use Rattle.std.proofs.lemmas.Iterator.{YieldsList-from_slice}
+use Rattle.std.proofs.lemmas.Iterator.Search.{any_from_yields_List}
+use Rattle.drafts.proofs.Lists.{any_map}
 use Rattle.drafts.proofs.valued.has.Goals as goal
 
-pub returns-then-variable-v : goal.returns-then-variable-v
-returns-then-variable-v g c =
-    sym (c.loop-p.invariant ∙ of_more g.T.Valued.of _ _ _ _ c.loop-p-test.true c.p-item.is ∙ or_left _ _ (eq-eqb _ _ (sym c.variable.ensures ∙ c.if-variable-v.true)))
-
-pub loop-p-preserved : goal.loop-p-preserved
-loop-p-preserved g c =
-    c.loop-p.invariant ∙ of_more g.T.Valued.of _ _ _ _ c.loop-p-test.true c.p-item.is ∙ or_past _ _ (ne_eqb _ _ (λ e. c.if-variable-v.false (c.variable.ensures ∙ e)))
-
 pub returns : goal.returns
-returns g c = sym (c.loop-p.invariant ∙ of_none g.T.Valued.of _ _ _ c.loop-p-test.false)
+returns g c =
+    any_from_yields_List (λ p. eqb (g.T.Valued.of p) c.args.v) _ _ c.any.result c.any.ensures.ran (YieldsList-from_slice c.args.parts.now cc) (λ x b q k. search (rules, tests)) ∙ any_map g.T.Valued.of _ c.args.parts.now

@@ -1,15 +1,12 @@
 -- The sizes are multiplied, up to the limit.
-use Rattle.std.proofs.Common.{leb, sym, ap, ◌∙◌, one-mul, mul-one, arith}
-use native.Mathlib.Nat.{min-le_right}
-use Rattle.drafts.proofs.Counted.{states_more, states_none}
+use Rattle.std.proofs.Common.{◌≡◌, ℕ, ◌*◌, min, leb, ap, ◌∙◌, one-mul, rules}
+use Rattle.std.specs.List.{fold}
+use Rattle.std.proofs.iter.runs.Made.{chains}
+use Rattle.drafts.specs.declared.parts.Variable.{Variable}
+use Rattle.drafts.proofs.Counted.{states_fold}
 use Rattle.drafts.proofs.whole.few_states.Goals as goal
 
-pub loop-v-init : goal.loop-v-init
-loop-v-init c = (omega arith, ap (λ n. leb n 1048576) (sym (one-mul _)))
-
-pub loop-v-preserved : goal.loop-v-preserved
-loop-v-preserved c =
-    (rw c.times-states.ensures (min-le_right _ 1048577), c.loop-v.invariant.1 ∙ states_more c.args.variables.now _ _ _ _ c.loop-v-test.true c.times-states.ensures)
-
 pub returns : goal.returns
-returns c = sym (c.loop-v.invariant.1 ∙ states_none c.args.variables.now _ _ c.loop-v-test.false ∙ ap (λ n. leb n 1048576) (mul-one _))
+returns c =
+    let folded : c.fold-states.result ≡ fold (λ (n : ℕ) (v : Variable). min (n * v.size) 4294967295) 1 c.args.variables.now = search (rules, chains) in
+    ap (λ n. leb n 1048576) folded ∙ states_fold 1 c.args.variables.now ∙ ap (λ n. leb n 1048576) (one-mul _)

@@ -1,15 +1,15 @@
 -- A name has 1 to 16 bytes, each of 33 to 126.
-use Rattle.std.proofs.Common.{sym, ◌∙◌, rules}
-use Rattle.std.proofs.lemmas.Bool.{and_left, and_right}
-use Rattle.fields.proofs.Tested.{all_more, all_none}
+use Rattle.std.proofs.Common.{◌≡◌, ◌&&◌, length, true, sym, ap, ◌∙◌, rules, tests, arith}
+use Rattle.std.specs.List.{list_all}
+use Rattle.std.proofs.lemmas.Iterator.{YieldsList-from_slice}
+use Rattle.std.proofs.lemmas.Iterator.Search.{all_from_yields_List}
+use Rattle.fields.specs.Text.{between}
 use Rattle.fields.proofs.field.is_name.Goals as goal
 
-pub returns-then-not-name_byte : goal.returns-then-not-name_byte
-returns-then-not-name_byte c =
-    sym (and_right _ _ (c.loop-b.invariant ∙ all_more _ _ _ c.loop-b-test.true ∙ and_left _ _ (sym c.if-not-name_byte.ensures)))
-
-pub loop-b-preserved : goal.loop-b-preserved
-loop-b-preserved c = search (rules, all_more)
-
-pub returns : goal.returns
-returns c = search (rules, all_none)
+pub returns-then-contains : goal.returns-then-contains
+returns-then-contains c =
+    let each : c.all.result ≡ list_all (between 33 126) c.args.text.now = all_from_yields_List (between 33 126) _ _ c.all.result c.all.ensures.ran (YieldsList-from_slice c.args.text.now cc) (λ x b q k. search (rules, tests)) in
+    let a = c.if-contains in
+    let b = c.new.ensures in
+    let few : between 1 16 (length c.args.text.now) ≡ true = grind (arith, c.if-contains.ensures.value, c.new.ensures) in
+    each ∙ sym (ap (λ t. t && list_all (between 33 126) c.args.text.now) few)

@@ -1,19 +1,13 @@
 -- A numeral has digits only, with no 0 in front.
-use Rattle.std.proofs.Common.{sym, ◌∙◌, rules}
-use Rattle.std.proofs.lemmas.Bool.{and_left}
-use Rattle.fields.proofs.Tested.{all_more, all_none}
+use Rattle.std.proofs.Common.{◌≡◌, rules, tests}
+use Rattle.std.specs.List.{list_all}
+use Rattle.std.proofs.lemmas.Iterator.{YieldsList-from_slice}
+use Rattle.std.proofs.lemmas.Iterator.Search.{all_from_yields_List}
+use Rattle.fields.specs.Text.{between}
 use Rattle.fields.proofs.Numerals.{numeral_all}
 use Rattle.fields.proofs.field.is_numeral.Goals as goal
 
-pub loop-b-init : goal.loop-b-init
-loop-b-init c = search (rules, numeral_all)
-
-pub returns-then-not-is_digit : goal.returns-then-not-is_digit
-returns-then-not-is_digit c =
-    sym (c.loop-b.invariant ∙ all_more _ _ _ c.loop-b-test.true ∙ and_left _ _ (sym c.if-not-is_digit.ensures))
-
-pub loop-b-preserved : goal.loop-b-preserved
-loop-b-preserved c = search (rules, all_more)
-
 pub returns : goal.returns
-returns c = search (rules, all_none)
+returns c =
+    let each : c.all.result ≡ list_all (between 48 57) c.args.text.now = all_from_yields_List (between 48 57) _ _ c.all.result c.all.ensures.ran (YieldsList-from_slice c.args.text.now cc) (λ x b q k. search (rules, tests)) in
+    search (rules, numeral_all, each)

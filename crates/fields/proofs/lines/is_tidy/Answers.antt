@@ -1,15 +1,13 @@
 -- A tidy line has at most 200 bytes, each of them tidy.
-use Rattle.std.proofs.Common.{sym, ◌∙◌, rules}
-use Rattle.std.proofs.lemmas.Bool.{and_left, and_right}
-use Rattle.fields.proofs.Tested.{all_more, all_none}
+use Rattle.std.proofs.Common.{◌≡◌, ◌&&◌, sym, ap, ◌∙◌, rules, tests}
+use Rattle.std.specs.List.{list_all}
+use Rattle.std.proofs.lemmas.Bool.{le-leb}
+use Rattle.std.proofs.lemmas.Iterator.{YieldsList-from_slice}
+use Rattle.std.proofs.lemmas.Iterator.Search.{all_from_yields_List}
+use Rattle.fields.specs.Text.{tidy_byte}
 use Rattle.fields.proofs.lines.is_tidy.Goals as goal
 
-pub returns-then-not-tidy_byte : goal.returns-then-not-tidy_byte
-returns-then-not-tidy_byte c =
-    sym (and_right _ _ (c.loop-b.invariant ∙ all_more _ _ _ c.loop-b-test.true ∙ and_left _ _ (sym c.if-not-tidy_byte.ensures)))
-
-pub loop-b-preserved : goal.loop-b-preserved
-loop-b-preserved c = search (rules, all_more)
-
-pub returns : goal.returns
-returns c = search (rules, all_none)
+pub returns-then-text-le200 : goal.returns-then-text-le200
+returns-then-text-le200 c =
+    let each : c.all.result ≡ list_all tidy_byte c.args.text.now = all_from_yields_List tidy_byte _ _ c.all.result c.all.ensures.ran (YieldsList-from_slice c.args.text.now cc) (λ x b q k. search (rules, tests)) in
+    each ∙ sym (ap (λ t. t && list_all tidy_byte c.args.text.now) (le-leb _ _ c.if-text-le200.true))
