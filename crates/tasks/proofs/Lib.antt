@@ -1,4 +1,4 @@
+pub mod Collecting
 pub mod Gathering
-pub mod Names
 pub mod Operators
 pub mod Meanings

@@ -8,7 +8,7 @@ use Rattle.tasks.specs.View.{model_of}
 use Rattle.tasks.specs.declared.card.Card.{Card}
 
 abbrev pub contents : Card → Content
-contents k = content (said (record { variables = k.variables; operators = k.operators; patterns = k.patterns }))
+contents k = content (said k.draft)
 
 abbrev pub model_in : Card → Model
 model_in k = model_of k.task

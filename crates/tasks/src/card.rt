@@ -1,6 +1,6 @@
-// A card that was read: its task, and the lines that the task was made from.
+// A card that was read: its task, and the draft that the task was made from.
 use crate::task::Task;
-use drafts::{DraftOperator, Variable};
+use drafts::Draft;
 
 mod built_in;
 mod gathers;
@@ -11,7 +11,5 @@ mod tells;
 #[derive(Drop)]
 pub struct Card<'a> {
     task: Task,
-    variables: Vec<Variable<'a>>,
-    operators: Vec<DraftOperator<'a>>,
-    patterns: Vec<Vec<u8>>,
+    draft: Draft<'a>,
 }

@@ -5,7 +5,7 @@ ghost use Rattle.tasks.specs.Contents.{contents, model_in};
 
 use super::Card;
 use crate::task::Task;
-use drafts::Variable;
+use drafts::{Draft, Variable};
 use fields::Field;
 use std::alloc::{AllocError, Global};
 
@@ -15,7 +15,6 @@ impl<'a> Card<'a> {
         ensures contents { IfOk result (λ k. contents k ≡ record { variables = record { name = codes "idle"; size = 2; start = 0; goal = None } ∷ []; operators = []; patterns = [] }) }
         ensures task { IfOk result (λ k. model_in k ≡ task_of (contents k)) }
     {
-        let task = Task::smallest(heap)?;
         let idle = Variable {
             name: Field::Name {
                 text: b"idle",
@@ -26,13 +25,14 @@ impl<'a> Card<'a> {
             start: 0,
             goal: None,
         };
-        let mut variables = Vec::new(heap);
-        variables.push(idle)?;
-        Ok(Card {
-            task,
-            variables,
+        let draft = Draft {
+            variables: vec![in heap; idle]?,
             operators: Vec::new(heap),
             patterns: Vec::new(heap),
+        };
+        Ok(Card {
+            task: Task::smallest(heap)?,
+            draft,
         })
     }
 }

@@ -9,20 +9,12 @@ impl<'a> Card<'a> {
     pub fn variable_name(&self, variable: usize) -> Option<&'a [u8]>
         ensures { MatchOption result (length (contents self.now).variables ≤ variable) (λ t. (variable < length (contents self.now).variables) × (t.now ≡ (slice_index_or (contents self.now).variables variable no_var).name)) }
     {
-        if variable < self.variables.len() {
-            Some(self.variables[variable].name.text())
-        } else {
-            None
-        }
+        self.draft.variables.get(variable).map(|v| v.name.text())
     }
 
     pub fn operator_name(&self, operator: usize) -> Option<&'a [u8]>
         ensures { MatchOption result (length (contents self.now).operators ≤ operator) (λ t. (operator < length (contents self.now).operators) × (t.now ≡ (slice_index_or (contents self.now).operators operator no_oper).name)) }
     {
-        if operator < self.operators.len() {
-            Some(self.operators[operator].name.text())
-        } else {
-            None
-        }
+        self.draft.operators.get(operator).map(|o| o.name.text())
     }
 }

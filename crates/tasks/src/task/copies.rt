@@ -25,9 +25,8 @@ impl Task {
     pub fn smallest(heap: Global) -> Result<Task, AllocError>
         ensures { IfOk result (λ t. model_of t ≡ record { sizes = 2 ∷ []; goal = []; operators = [] }) }
     {
-        let sizes = Vec::from_slice(heap, &[2])?;
         Ok(Task {
-            sizes,
+            sizes: vec![in heap; 2]?,
             goal: Vec::new(heap),
             operators: Vec::new(heap),
         })

@@ -23,6 +23,7 @@ impl Operator {
 
 impl Task {
     // The number of values of each variable.
+    #[tactic(auto, using(sas::proofs::Rules::rules))]
     pub fn sizes(&self) -> &[u8]
         ensures value { result.now ≡ (model_of self.now).sizes }
         ensures rules { Rules (model_of self.now) }

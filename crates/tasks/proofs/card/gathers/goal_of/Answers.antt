@@ -1,17 +1,8 @@
-use Rattle.std.proofs.Common.{vec_items, sym, ap, ◌∙◌}
-use Rattle.std.proofs.lemmas.List.{append-nil}
-use Rattle.tasks.proofs.Gathering.{aimed_more, aimed_all}
+use Rattle.std.proofs.Common.{vec_items, rules, tests}
+use Rattle.std.proofs.lemmas.Iterator.{items_from_collect, YieldsList-from_slice}
+use Rattle.std.proofs.lemmas.Iterator.Consumers.{YieldsList-from_filter_map, YieldsList-from_enumerate}
+use Rattle.tasks.proofs.Collecting.{goal_collected, aimed}
 use Rattle.tasks.proofs.card.gathers.goal_of.Goals as goal
-use Rattle.tasks.proofs.card.gathers.goal_of.Goals.{in-Some+in_ok-push, in_default}
-
-pub loop-i-preserved : goal.loop-i-preserved
-loop-i-preserved c =
-    let vs = c.args.variables.now in
-    let was = vec_items c.loop-i.all in
-    elim c.match-v.branch [
-      | in-Some+in_ok-push w ↦ aimed_more vs c.loop-i.i _ _ was _ _ c.loop-i-test.true w.in-Some.is (ap vec_items w.all-is ∙ w.in_ok-push.ensures.items) c.loop-i.invariant
-      | in_default w ↦ aimed_more vs c.loop-i.i _ _ was _ _ c.loop-i-test.true w.in_default.is (ap vec_items w.all-is ∙ sym (append-nil was)) c.loop-i.invariant
-    ]
 
 pub returns : goal.returns
-returns c = aimed_all c.args.variables.now c.loop-i.i (vec_items c.loop-i.all) _ c.loop-i-test.false c.loop-i.invariant
+returns c = goal_collected (vec_items c.args.draft.now.variables) _ (items_from_collect _ c.collect.ensures.ran (YieldsList-from_filter_map _ aimed (YieldsList-from_enumerate (YieldsList-from_slice (vec_items c.args.draft.now.variables) cc) cc) c.filter_map.ensures.closure (λ x r q k. search (rules, tests))))
