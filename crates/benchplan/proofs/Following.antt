@@ -1,5 +1,6 @@
 -- A run, one step further along its operators.
-use Rattle.std.proofs.Common.{◌≡◌, ℕ, ◌+◌, ◌<◌, ◌≤◌, List, length, get_or, drop, sym, ap, subst, arith}
+use Rattle.std.proofs.Common.{◌≡◌, ℕ, ◌+◌, ◌<◌, ◌≤◌, Bool, true, false, List, IfSome, length, get_or, drop, refl, sym, ap, subst, arith}
+use Rattle.std.specs.Bool.{then_some}
 use Rattle.std.proofs.lemmas.List.{drop_more, drop_all}
 use Rattle.sas.specs.Model.{Model}
 use Rattle.sas.specs.Runs.{Run, stay, step, cost}
@@ -27,7 +28,7 @@ goal_state : (m : Model) (s : List ℕ) → Goal m s → State m.sizes s
 unfolding Goal
 goal_state m s g = g.0
 
-pub arrived : (m : Model) (costs start steps here : List ℕ) (i paid : ℕ) → length steps ≤ i → Goal m here → Along m costs start steps here i paid → Runs m start costs steps paid
+arrived : (m : Model) (costs start steps here : List ℕ) (i paid : ℕ) → length steps ≤ i → Goal m here → Along m costs start steps here i paid → Runs m start costs steps paid
 arrived m costs start steps here i paid done goal a =
     let none = drop_all i steps done in
     let state = goal_state m here goal in
@@ -37,3 +38,8 @@ arrived m costs start steps here i paid done goal a =
       goal = goal;
       sum = omega (arith, a.paid_so_far, ap (cost (λ o. get_or costs o 0)) none);
     }
+
+-- the steps are a plan where the goal holds at their end
+pub told : (m : Model) (costs start steps here : List ℕ) (i paid : ℕ) → length steps ≤ i → (b : Bool) → (b ≡ true → Goal m here) → Along m costs start steps here i paid → IfSome (then_some b paid) (λ c. Runs m start costs steps c)
+told m costs start steps here i paid done true goal a = arrived m costs start steps here i paid done (goal refl) a
+told m costs start steps here i paid done false goal a = tt

@@ -1,11 +1,12 @@
 -- What a plan is worth: a run from a start to a goal state, at the cost that is stated.
-use Rattle.std.specs.Prelude.{◌≡◌, ℕ, ◌<◌, ◌≤◌, ◌⊎◌, List, vec_items, slice_index}
+use Rattle.std.specs.Prelude.{◌≡◌, ℕ, ◌<◌, ◌≤◌, ◌⊎◌, List, Result, Ok, Err, IfSome, vec_items, slice_index}
 use Rattle.sas.specs.Model.{Model}
 use Rattle.sas.specs.Ranks.{states}
 use Rattle.sas.specs.Runs.{Run, cost}
 use Rattle.sas.specs.States.{Goal}
-use Rattle.benchplan.specs.declared.answer.Answer.{Answer}
-use Rattle.benchplan.specs.declared.answer.Answer.TheVariants.{Plan, Refused}
+use Rattle.benchplan.specs.declared.answer.Plan.{Plan}
+use Rattle.benchplan.specs.declared.refusal.Refusal.{Refusal}
+use Rattle.benchplan.specs.Refusals.{refusal_number, refusal_place}
 
 -- no operator is barred
 abbrev pub Any : ℕ → Type 0
@@ -18,7 +19,7 @@ pub record Runs (m : Model) (start costs steps : List ℕ) (all : ℕ) : Type 0 
   pub goal : Goal m end
   pub sum : all ≡ cost (λ o. slice_index costs o) steps
 
--- the answer to a card that was read: a plan, 17 where it has more states than there is memory for, or 20
-abbrev pub Kept : Model → List ℕ → List ℕ → Answer → Type 0
-Kept m start costs (Plan steps all) = (states m ≤ 1024) × Runs m start costs (vec_items steps) all
-Kept m start costs (Refused number line field) = (line ≡ 0) × (field ≡ 0) × (((number ≡ 17) × (1024 < states m)) ⊎ ((number ≡ 20) × (states m ≤ 1024)))
+-- the answer to a card that was read: a plan, 17 where it has more states than there is memory for, 20, or no number
+abbrev pub Kept : Model → List ℕ → List ℕ → Result Plan Refusal → Type 0
+Kept m start costs (Ok plan) = (states m ≤ 1024) × Runs m start costs (vec_items plan.steps) plan.cost
+Kept m start costs (Err r) = IfSome (refusal_number r) (λ n. (refusal_place r ≡ (0, 0)) × (((n ≡ 17) × (1024 < states m)) ⊎ ((n ≡ 20) × (states m ≤ 1024))))

@@ -1,103 +1,46 @@
 // From a card's bytes to an answer.
-ghost use Rattle.std.specs.Prelude.{◌≡◌, IfOk};
-ghost use Rattle.benchplan.specs.Answers.{Answered, RefusedFor};
-ghost use Rattle.benchplan.specs.declared.answer.Answer.TheVariants.{Refused};
+ghost use Rattle.benchplan.specs.Answers.{Answered};
 ghost use Rattle.benchplan.specs.Plans.{Kept};
 ghost use Rattle.tasks.specs.Contents.{contents, model_in, starts, costs};
 
 use crate::follow::follow;
+use crate::refusal::Refusal;
 use crate::search::find;
-use cards::CardFault;
-use states::{StateRefusal, rank, state_count};
-use std::alloc::{AllocError, Global};
+use states::{rank, state_count};
+use std::alloc::Global;
 use tasks::Card;
 
 // The program's memory is for so many states.
 const MOST_STATES: usize = 1024;
 
-// A plan, or the number of a refusal with its line and field, each 0 where it has none.
+// The operators in their order, and what they cost.
 #[derive(Drop)]
-pub enum Answer {
-    Plan {
-        steps: Vec<usize>,
-        cost: u64,
-    },
-    Refused {
-        number: u8,
-        line: usize,
-        field: usize,
-    },
-}
-
-// Why there is no answer.
-#[derive(Clone, Copy, Debug)]
-pub enum Failure {
-    Memory,
-    Astray,
-}
-
-impl From<AllocError> for Failure {
-    fn from(_e: AllocError) -> Failure {
-        Failure::Memory
-    }
-}
-
-fn bare(number: u8) -> Answer
-    ensures { result ≡ Refused number 0 0 }
-{
-    Answer::Refused {
-        number,
-        line: 0,
-        field: 0,
-    }
-}
-
-// The answer to a card that is at fault.
-fn refused(fault: &CardFault) -> Result<Answer, Failure>
-    ensures { IfOk result (RefusedFor fault.now) }
-{
-    match fault.number() {
-        Some(number) => {
-            let (line, field) = fault.place();
-            Ok(Answer::Refused {
-                number,
-                line,
-                field,
-            })
-        }
-        None => Err(Failure::Memory),
-    }
+pub struct Plan {
+    pub steps: Vec<usize>,
+    pub cost: u64,
 }
 
 // The answer to a card that was read.
-fn planned<'a>(heap: Global, card: &Card<'a>) -> Result<Answer, Failure>
-    ensures { IfOk result (Kept (model_in card.now) (starts (contents card.now)) (costs (contents card.now))) }
+fn planned<'a>(heap: Global, card: &Card<'a>) -> Result<Plan, Refusal>
+    ensures { Kept (model_in card.now) (starts (contents card.now)) (costs (contents card.now)) result }
 {
     let task = card.task();
     let count = state_count(task);
     if count > MOST_STATES {
-        return Ok(bare(17));
+        return Err(Refusal::TooManyStates);
     }
     let mut values = card.start(heap)?;
     let costs = card.costs(heap)?;
-    let Ok(start) = rank(task, values.as_slice()) else {
-        return Err(Failure::Astray);
-    };
-    let Some(steps) = find(heap, task, costs.as_slice(), count, start)? else {
-        return Ok(bare(20));
-    };
-    match follow(task, costs.as_slice(), &mut values, steps.as_slice()) {
-        Some(cost) => Ok(Answer::Plan { steps, cost }),
-        None => Err(Failure::Astray),
-    }
+    let start = rank(task, &values).map_err(|_| Refusal::Astray)?;
+    let steps = find(heap, task, &costs, count, start)?.ok_or(Refusal::NoPlan)?;
+    let cost = follow(task, &costs, &mut values, &steps).ok_or(Refusal::Astray)?;
+    Ok(Plan { steps, cost })
 }
 
 // Reads a card over `card`, and plans.
-pub fn plan_card<'a>(heap: Global, card: &mut Card<'a>, bytes: &'a [u8]) -> Result<Answer, Failure>
-    ensures { IfOk result (Answered bytes.now) }
+pub fn plan_card<'a>(heap: Global, card: &mut Card<'a>, bytes: &'a [u8]) -> Result<Plan, Refusal>
+    ensures { Answered bytes.now result }
 {
-    match card.read(heap, bytes) {
-        Ok(()) => planned(heap, card),
-        Err(fault) => refused(&fault),
-    }
+    card.read(heap, bytes)?;
+    planned(heap, card)
 }

@@ -12,18 +12,11 @@ pub fn follow(task: &Task, costs: &[u16], values: &mut [u8], steps: &[usize]) ->
 {
     let mut cost: u64 = 0;
     for step in steps {
-        let step = *step;
-        if step >= costs.len() {
+        let price = costs.get(*step)?;
+        if !apply(task, *step, values) {
             return None;
         }
-        if !apply(task, step, values) {
-            return None;
-        }
-        cost = cost.checked_add(u64::from(costs[step]))?;
+        cost = cost.checked_add(u64::from(*price))?;
     }
-    if is_goal(task, values) {
-        Some(cost)
-    } else {
-        None
-    }
+    is_goal(task, values).then_some(cost)
 }

@@ -1,7 +1,7 @@
 // Reads a card from standard input and prints a cheapest plan, or why there is none.
 #![tactic(auto)]
 
-use crate::answer::{Answer, plan_card};
+use crate::answer::{Plan, plan_card};
 use crate::input::card_bytes;
 use anyhow::anyhow;
 use std::io;
@@ -10,6 +10,7 @@ use tasks::Card;
 mod answer;
 mod follow;
 mod input;
+mod refusal;
 mod search;
 
 fn print_step<'a>(rt: &HostRuntime, card: &Card<'a>, step: usize) -> io::Result<()> {
@@ -18,34 +19,24 @@ fn print_step<'a>(rt: &HostRuntime, card: &Card<'a>, step: usize) -> io::Result<
     println!(rt; "step\t{step}\t{name}")
 }
 
-fn print<'a>(rt: &HostRuntime, card: &Card<'a>, answer: &Answer) -> io::Result<()> {
-    match answer {
-        Answer::Refused {
-            number,
-            line,
-            field,
-        } => println!(rt; "refused\t{number}\t{line}\t{field}"),
-        Answer::Plan { steps, cost } => {
-            println!(rt; "cost\t{cost}")?;
-            for step in steps.as_slice() {
-                print_step(rt, card, *step)?;
-            }
-            Ok(())
-        }
+fn print<'a>(rt: &HostRuntime, card: &Card<'a>, plan: &Plan) -> io::Result<()> {
+    println!(rt; "cost\t{}", plan.cost)?;
+    for step in &plan.steps {
+        print_step(rt, card, *step)?;
     }
+    Ok(())
 }
 
 fn run(rt: &HostRuntime) -> anyhow::Result<()> {
     let heap = rt.alloc();
     let bytes = card_bytes(rt)?;
     let mut card = Card::built_in(heap)?;
-    match plan_card(heap, &mut card, bytes.as_slice()) {
-        Ok(answer) => {
-            print(rt, &card, &answer)?;
-            Ok(())
-        }
-        Err(_) => Err(anyhow!("no memory for this card")),
+    match plan_card(heap, &mut card, &bytes) {
+        Ok(plan) => print(rt, &card, &plan)?,
+        Err(refusal) if refusal.number().is_some() => println!(rt; "{refusal}")?,
+        Err(refusal) => return Err(anyhow!("{refusal}")),
     }
+    Ok(())
 }
 
 fn main(rt: HostRuntime) -> anyhow::Result<()> {

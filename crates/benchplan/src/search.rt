@@ -13,17 +13,14 @@ struct Label {
 
 // Notes a way to `rank` that is cheaper than the one known.
 fn better(labels: &mut [Option<Label>], rank: usize, new: Label) -> bool {
-    if rank >= labels.len() {
+    let Some(known) = labels.get_mut(rank) else {
+        return false;
+    };
+    if known.is_some_and(|label| label.cost <= new.cost) {
         return false;
     }
-    let old = labels[rank];
-    match old {
-        Some(label) if label.cost <= new.cost => false,
-        _ => {
-            labels[rank] = Some(new);
-            true
-        }
-    }
+    *known = Some(new);
+    true
 }
 
 // Follows every operator from `rank`.
@@ -35,14 +32,8 @@ fn spread(task: &Task, costs: &[u16], labels: &mut [Option<Label>], rank: usize)
     for (by, cost) in costs.iter().enumerate() {
         if let Some(next) = successor(task, by, rank) {
             let cost = label.cost.saturating_add(u64::from(*cost));
-            let new = Label {
-                cost,
-                from: rank,
-                by,
-            };
-            if better(labels, next, new) {
-                changed = true;
-            }
+            let from = rank;
+            changed |= better(labels, next, Label { cost, from, by });
         }
     }
     changed
@@ -50,10 +41,9 @@ fn spread(task: &Task, costs: &[u16], labels: &mut [Option<Label>], rank: usize)
 
 fn spread_all(task: &Task, costs: &[u16], labels: &mut [Option<Label>]) -> bool {
     let mut changed = false;
+    // By rank: a spread changes the labels of other ranks, so that no iterator may hold them.
     for rank in 0..labels.len() {
-        if spread(task, costs, labels, rank) {
-            changed = true;
-        }
+        changed |= spread(task, costs, labels, rank);
     }
     changed
 }
@@ -69,21 +59,13 @@ fn settle(task: &Task, costs: &[u16], labels: &mut [Option<Label>]) {
 
 // The goal state that is reached at least cost.
 fn nearest_goal(task: &Task, labels: &[Option<Label>]) -> Option<usize> {
-    let mut best: Option<(usize, u64)> = None;
-    for rank in 0..labels.len() {
-        if let Some(label) = labels[rank] {
-            if is_goal_rank(task, rank) {
-                match best {
-                    Some((_, cost)) if cost <= label.cost => {}
-                    _ => best = Some((rank, label.cost)),
-                }
-            }
-        }
-    }
-    match best {
-        Some((rank, _)) => Some(rank),
-        None => None,
-    }
+    labels
+        .iter()
+        .enumerate()
+        .filter_map(|(rank, label)| label.map(|label| (rank, label.cost)))
+        .filter(|(rank, _)| is_goal_rank(task, *rank))
+        .min_by_key(|(_, cost)| *cost)
+        .map(|(rank, _)| rank)
 }
 
 // The steps from `start` to `goal`, gone back label by label.
@@ -99,10 +81,11 @@ fn trace(
         if rank == start {
             break;
         }
-        if let Some(Some(label)) = labels.get(rank).copied() {
-            steps.push(label.by)?;
-            rank = label.from;
-        }
+        let Some(Some(label)) = labels.get(rank).copied() else {
+            break;
+        };
+        steps.push(label.by)?;
+        rank = label.from;
     }
     steps.reverse();
     Ok(steps)
@@ -124,8 +107,7 @@ pub(crate) fn find(
     };
     better(&mut labels, start, first);
     settle(task, costs, &mut labels);
-    match nearest_goal(task, labels.as_slice()) {
-        Some(goal) => Ok(Some(trace(heap, labels.as_slice(), start, goal)?)),
-        None => Ok(None),
-    }
+    nearest_goal(task, &labels)
+        .map(|goal| trace(heap, &labels, start, goal))
+        .transpose()
 }
