@@ -13,12 +13,10 @@ use session::{Refusal, Session};
 pub fn step(session: &mut Session, operator: usize) -> Result<(), Refusal>
     ensures { MatchResult result (λ _. Replayed (bench session.old) (Begin operator ∷ Done operator ∷ []) (bench session.new)) (λ e. Begins operator (bench session.old) (Err e) × (bench session.new ≡ bench session.old)) }
 {
-    match session.begin(operator) {
-        Ok(ticket) => match session.done(ticket) {
-            Ok(()) => Ok(()),
-            Err(_back) => unreachable(),
-        },
-        Err(refusal) => Err(refusal),
+    let ticket = session.begin(operator)?;
+    match session.done(ticket) {
+        Ok(()) => Ok(()),
+        Err(_back) => unreachable(),
     }
 }
 
