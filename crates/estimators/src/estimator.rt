@@ -27,7 +27,8 @@ pub trait Estimator {
     fn share(&self, operator: usize) -> u64
         ensures { result ≡ shares self.now operator };
 
-    // How far a state is from the goal: each run there costs at least so much; none, where it is dead, for no run leads there.
+    // How far a state is from the goal: each run there costs at least so much. None where the state is dead, and no run
+    // leads there.
     fn height(&self, rank: usize) -> Option<u64>
         ensures { result ≡ heights self.now rank };
 }

@@ -91,28 +91,21 @@ fn tell_heavy(rt: &HostRuntime, task: &Task) -> anyhow::Result<()> {
     Ok(())
 }
 
-type Lower = HigherOf<Blind, Toll>;
-
-type Middle = SumOf<Toll, Lower>;
-
-type Pile = HigherOf<Middle, Blind>;
-
-fn lower(task: &Task) -> Result<Lower, AllocError> {
-    let first = Blind::new(task)?;
-    let second = Toll::new(task, 1)?;
-    Ok(HigherOf { first, second })
-}
-
-fn middle(task: &Task) -> Result<Middle, AllocError> {
-    let first = Toll::new(task, 1)?;
-    let second = lower(task)?;
-    Ok(SumOf { first, second })
-}
+type Pile = HigherOf<SumOf<Toll, HigherOf<Blind, Toll>>, Blind>;
 
 fn pile_over(task: &Task) -> Result<Pile, AllocError> {
-    let first = middle(task)?;
-    let second = Blind::new(task)?;
-    Ok(HigherOf { first, second })
+    let lower = HigherOf {
+        first: Blind::new(task)?,
+        second: Toll::new(task, 1)?,
+    };
+    let middle = SumOf {
+        first: Toll::new(task, 1)?,
+        second: lower,
+    };
+    Ok(HigherOf {
+        first: middle,
+        second: Blind::new(task)?,
+    })
 }
 
 fn tell_pile(rt: &HostRuntime, task: &Task, costs: &[u16]) -> anyhow::Result<()> {
