@@ -1,5 +1,6 @@
 -- The steps of a projected task by rank, and the states of its ranks.
 use Rattle.std.proofs.Common.{◌≡◌, ℕ, ◌<◌, ◌≤◌, Bool, List, [], ◌∷◌, map, length, get_or, Decides, sym, ap, ◌∙◌, subst, inl, inr, arith}
+use mathlib.Core.List.{map-map}
 use Rattle.std.specs.List.{AllByRecursion}
 use Rattle.std.proofs.ByRecursion.{All-get_or, All-weaker}
 use Rattle.std.proofs.lemmas.List.{get_or_past}
@@ -62,10 +63,6 @@ pub all_unmap : {X Y : Type 0} (P : Y → Type 0) (f : X → Y) (xs : List X) �
 all_unmap P f [] h = tt
 all_unmap P f (x ∷ xs) h = (h.0, all_unmap P f xs h.1)
 
-same_variables : (fs : List Fact) → map (λ q. q.variable) (map as_precondition fs) ≡ map (λ f. f.variable) fs
-same_variables [] = λ i. []
-same_variables (f ∷ fs) = ap (λ vs. f.variable ∷ vs) (same_variables fs)
-
 -- the facts stand in a state
 abbrev pub Stand : List Fact → List ℕ → Type 0
 Stand fs s = AllByRecursion (λ f. get_or s f.variable 0 ≡ f.value) fs
@@ -107,7 +104,7 @@ module _ (p : Model) (h : Shaped p) (o : ℕ) (ps es : List Fact) (is : operator
   asked_valued = all_unmap (λ q. Valued p.sizes q.variable q.value) as_precondition ps shaped_here.preconditions_valued
 
   pub asked_distinct : Distinct (map (λ f. f.variable) ps)
-  asked_distinct = subst Distinct (same_variables ps) shaped_here.preconditions_distinct
+  asked_distinct = subst Distinct (map-map (λ q. q.variable) as_precondition ps) shaped_here.preconditions_distinct
 
   pub set_valued : AllByRecursion (λ f. Valued p.sizes f.variable f.value) es
   set_valued = shaped_here.effects_valued

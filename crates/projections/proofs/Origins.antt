@@ -1,5 +1,6 @@
 -- The ranks from which an operator leads to a rank: the one in which its free variables are 0, and what their choices add.
 use Rattle.std.proofs.Common.{◌≡◌, ℕ, ◌+◌, ◌<◌, List, [], ◌∷◌, map, length, get_or, sym, ap, ◌∙◌, subst, arith}
+use mathlib.Core.List.{map-id, map-map}
 use Rattle.std.specs.List.{AllByRecursion}
 use Rattle.std.proofs.ByRecursion.{All-map, All-weaker}
 use Rattle.sas.specs.Model.{Model, Distinct, Valued}
@@ -22,8 +23,7 @@ abbrev pub Writes : ℕ → ℕ → List ℕ → List Fact → Type 0
 Writes k r sizes fs = (s : List ℕ) → State sizes s → rank sizes s ≡ k → r ≡ rank sizes (outcome fs s)
 
 pub zero_variables : (vs : List ℕ) → map (λ f. f.variable) (map at_zero vs) ≡ vs
-zero_variables [] = λ i. []
-zero_variables (v ∷ vs) = ap (λ ws. v ∷ ws) (zero_variables vs)
+zero_variables vs = map-map (λ f. f.variable) at_zero vs ∙ map-id vs
 
 -- 0 is a value of each free variable
 pub frees_valued : (sizes : List ℕ) (ps es : List Fact) → AllByRecursion (λ f. Valued sizes f.variable f.value) es → AllByRecursion (λ f. Valued sizes f.variable f.value) (map at_zero (frees ps es))

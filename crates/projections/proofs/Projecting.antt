@@ -1,6 +1,7 @@
 -- What a step and a goal state of the whole task are in the projected one.
 use Rattle.std.proofs.Common.{◌≡◌, ℕ, zero, suc, ◌<◌, Bool, List, [], ◌∷◌, map, length, get_or, sym, refl, ap, ◌∙◌, subst, arith}
 use Rattle.std.specs.List.{AllByRecursion}
+use Rattle.std.proofs.Math.ListN.{get_or-map}
 use Rattle.std.proofs.lemmas.List.{length-map}
 use Rattle.sas.specs.Model.{Action, Model, Rules}
 use Rattle.sas.specs.States.{State, Holds, Stands, Step, outcome, operator, idle}
@@ -14,15 +15,10 @@ use Rattle.projections.proofs.Only.{state_only}
 use Rattle.projections.proofs.Kept.{kept_stand, kept_hold, kept_outcome}
 use Rattle.projections.proofs.Shaping.{shaping}
 
-get_or_projected : (keep : ℕ → Bool) (ops : List Action) (o : ℕ) → get_or (map (projected_action keep) ops) o idle ≡ projected_action keep (get_or ops o idle)
-get_or_projected keep [] o = refl
-get_or_projected keep (a ∷ ops) zero = refl
-get_or_projected keep (a ∷ ops) (suc o) = get_or_projected keep ops o
-
 -- an operator of the projected task is what is left of the one of that number
 pub operator_projected : (keep : ℕ → Bool) (m : Model) (o : ℕ) → operator (projected keep m) o ≡ projected_action keep (operator m o)
 unfolding projected
-operator_projected keep m o = get_or_projected keep m.operators o
+operator_projected keep m o = get_or-map (projected_action keep) m.operators o idle
 
 pub operators_projected : (keep : ℕ → Bool) (m : Model) → length (projected keep m).operators ≡ length m.operators
 unfolding projected

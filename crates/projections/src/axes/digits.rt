@@ -19,6 +19,7 @@ impl Axes {
     }
 
     // The value of a variable in the state of a rank.
+    #[tactic(auto, using(crate::proofs::Digits::value_is))]
     fn value_of(&self, variable: usize, rank: usize) -> usize
         requires inside { variable < length self.now.list.items }
         ensures { result ≡ digit (axis_sizes self.now.list.items) variable rank }

@@ -21,8 +21,7 @@ impl Axes {
         let mut list = Vec::new(heap);
         let mut coefficient: usize = 1;
         let mut place: usize = 1;
-        for (variable, size) in sizes.iter().enumerate() {
-            let size = *size;
+        for (variable, &size) in sizes.iter().enumerate() {
             if has(pattern, variable) {
                 list.push(Axis {
                     size,

@@ -85,6 +85,7 @@ fn moved(heap: Global, operator: &Operator, pattern: &[u8]) -> Result<Move, Allo
 fn all_moved(heap: Global, operators: &[Operator], pattern: &[u8]) -> Result<Vec<Move>, AllocError>
     ensures { IfOk result (λ v. map action v.items ≡ map (projected_action (among pattern.now)) (map Tasks.action operators.now)) }
 {
+    // By a loop: of a chain whose items may fail, the check does not know what it collects.
     let mut all = Vec::new(heap);
     for o in operators {
         all.push(moved(heap, o, pattern)?)?;

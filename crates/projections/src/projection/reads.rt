@@ -58,7 +58,8 @@ impl Projection {
             return None;
         }
         let asked = self.axes.written(&one.asked, rank);
-        if self.axes.written(&one.effects, asked) != rank {
+        let leads_back = self.axes.written(&one.effects, asked) == rank;
+        if !leads_back {
             return None;
         }
         Some(self.axes.written(&one.free, asked))
@@ -85,6 +86,7 @@ impl Projection {
     }
 
     // The rank of what is left of the state of a rank of the whole task.
+    #[tactic(auto, unfolding(sas::specs::Ranks::states))]
     pub fn of(&self, rank: usize) -> usize
         ensures value { result ≡ folded (places_of self.now) (view_of self.now).sizes rank }
         ensures low { result < states (view_of self.now) }

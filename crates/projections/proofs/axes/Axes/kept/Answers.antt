@@ -29,9 +29,6 @@ loop-variable-preserved c =
       | else-has w ↦ kept_passed (among c.args.pattern.now) c.args.sizes.now c.requires.sized c.requires.few l.list.items l.coefficient l.place l.variable l.invariant c.loop-variable-test.true c.has.result c.has.ensures w.if-has.false (vec_items c.if-has.list) (ap vec_items w.list-is) c.if-has.coefficient c.from-place.result w.coefficient-is c.from-place.ensures
     ]
 
-pub loop-variable-init : goal.loop-variable-init
-loop-variable-init c = subst (λ xs. KeptSoFar (among c.args.pattern.now) c.args.sizes.now xs 1 1 0) (sym c.new-list.ensures.items) (kept_none (among c.args.pattern.now) c.args.sizes.now c.requires.sized c.requires.few)
-
 pub invariant_of-result : goal.invariant_of-result
 invariant_of-result c =
     let l = c.loop-variable in

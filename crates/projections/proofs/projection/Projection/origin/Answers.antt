@@ -35,8 +35,8 @@ written-requires-2-clause-valued c =
     let p = c.args.self.now in
     subst (All (λ f. Valued (view_of p).sizes f.variable f.value)) (sym c.deref-4.ensures.value) (free_values p c.args.operator c.in_ok-one.one.now c.deref.result.now c.deref.ensures.value c.in_ok-one.ensures.lookup.3)
 
-pub returns-then-written-rank : goal.returns-then-written-rank
-returns-then-written-rank c =
+pub returns-then-not-leads_back : goal.returns-then-not-leads_back
+returns-then-not-leads_back c =
     let p = c.args.self.now in
     let x = c.in_ok-one.one.now in
     let o = c.args.operator in
@@ -45,7 +45,7 @@ returns-then-written-rank c =
     no_origin (view_of p) c.states.ensures.shaped o x.asked.items x.effects.items (read_is p o x c.deref.result.now c.deref.ensures.value c.in_ok-one.ensures.lookup.3) (read_number p o x c.deref.result.now c.deref.ensures.value c.in_ok-one.ensures.lookup.3) c.args.rank (omega (arith, c.if-rank-states.false, c.states.ensures.count)) a w
     (subst (Writes c.args.rank a (view_of p).sizes) c.deref-2.ensures.value c.written-asked.ensures.value)
     (subst (Writes a w (view_of p).sizes) c.deref-3.ensures.value c.written.ensures.value)
-    c.if-written-rank.true
+    c.if-not-leads_back.true
 
 pub returns : goal.returns
 returns c =
@@ -60,5 +60,5 @@ returns c =
     (subst (Writes a w (view_of p).sizes) c.deref-3.ensures.value c.written.ensures.value)
     b
     (subst (Writes a b (view_of p).sizes) (c.deref-4.ensures.value ∙ x.frees) c.written-2.ensures.value)
-    c.if-written-rank.false
+    c.if-not-leads_back.false
     (remains_is p o x c.deref.result.now c.deref.ensures.value c.in_ok-one.ensures.lookup.3 c.is_empty.result c.is_empty.ensures c.if-is_empty.false)

@@ -18,12 +18,6 @@ returns-then-rank-states c l e = elim c.then-rank-states.branch [
   | then-rank-states-via-else-rank-states+then-is_empty w ↦ gone_is c.args.self.now c.args.operator c.in_ok-one.one.now c.deref.result.now c.deref.ensures.value c.in_ok-one.ensures.lookup.3 w.is_empty.result w.is_empty.ensures w.if-is_empty.true e.0
 ]
 
-pub all_stand-requires : goal.all_stand-requires
-all_stand-requires c =
-    let p = c.args.self.now in
-    let x = c.in_ok-one.one.now in
-    record { inside = subst (All (λ f. f.variable < length p.axes.list.items)) (sym c.deref-2.ensures.value) (inside p x.asked.items (asked_values p c.args.operator x c.deref.result.now c.deref.ensures.value c.in_ok-one.ensures.lookup.3)) }
-
 pub returns-then-not-all_stand : goal.returns-then-not-all_stand
 returns-then-not-all_stand c =
     let p = c.args.self.now in
@@ -31,6 +25,12 @@ returns-then-not-all_stand c =
     let o = c.args.operator in
     let d = subst (λ fs. Decides c.all_stand.result (AllByRecursion (λ f. digit (view_of p).sizes f.variable c.args.rank ≡ f.value) fs)) c.deref-2.ensures.value c.all_stand.ensures in
     no_edge (view_of p) c.states.ensures.shaped o x.asked.items x.effects.items (read_is p o x c.deref.result.now c.deref.ensures.value c.in_ok-one.ensures.lookup.3) (read_number p o x c.deref.result.now c.deref.ensures.value c.in_ok-one.ensures.lookup.3) c.args.rank (omega (arith, c.if-rank-states.false, c.states.ensures.count)) (λ h. false≢true (sym c.if-not-all_stand.true ∙ d.1 h))
+
+pub all_stand-requires : goal.all_stand-requires
+all_stand-requires c =
+    let p = c.args.self.now in
+    let x = c.in_ok-one.one.now in
+    record { inside = subst (All (λ f. f.variable < length p.axes.list.items)) (sym c.deref-2.ensures.value) (inside p x.asked.items (asked_values p c.args.operator x c.deref.result.now c.deref.ensures.value c.in_ok-one.ensures.lookup.3)) }
 
 pub written-requires : goal.written-requires
 unfolding Ranks.states
