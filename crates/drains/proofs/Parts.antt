@@ -1,14 +1,22 @@
 -- What a drain has given after some turns, what one more take adds, and what is given in the end.
-use Rattle.std.proofs.Common.{◌≡◌, ℕ, ◌+◌, ◌<◌, ◌≤◌, Bool, true, ◌⊎◌, List, [], ◌∷◌, ◌++◌, length, get_or, Some, None, Option, sym, refl, ap, ◌∙◌, inl, inr, arith}
+use Rattle.std.proofs.Common.{◌≡◌, ℕ, ◌<◌, ◌≤◌, Bool, true, ◌⊎◌, List, [], ◌∷◌, ◌++◌, length, get_or, Some, None, Option, sym, refl, ap, ◌∙◌, inl, inr, arith}
 use native.Mathlib.Decide.{dec_lt}
 use Rattle.std.proofs.lemmas.List.{get_or_push, get_or_append_left, length_push}
 use Rattle.std.proofs.lemmas.Bool.{cases_eq}
 use Rattle.lists.specs.Waits.{Empty, Taken}
 use Rattle.drains.specs.Drained.{Ascends, Once, Waited, Given, Drained}
-use Rattle.drains.proofs.Counting.{counted, counted_bound, counted_zero, counted_less}
+use Rattle.drains.proofs.Ranks.{room}
 
 clash : {K : Type 0} (o : Option K) (k : K) → o ≡ Some k → o ≡ None → ⊥
 clash o k p q = let z : ◌≡◌ {A = ℕ} 0 1 = cc in omega arith
+
+none_unless : {K : Type 0} (o : Option K) → ((k : K) → o ≡ Some k → ⊥) → o ≡ None
+none_unless None h = refl
+none_unless (Some k) h = absurd (h k refl)
+
+-- a rank that waits is one of the places
+within_places : {K : Type 0} {O : Type 0} {f : ℕ → Option K} {n : ℕ} → ((q : ℕ) → O → n ≤ q → f q ≡ None) → O → (q : ℕ) (k : K) → f q ≡ Some k → q < n
+within_places within o q k h = elim (dec_lt q _) [ yes l ↦ l | no past ↦ absurd (clash _ k h (within q o (omega arith))) ]
 
 -- a place of a list with one more pair: an old one, or the last
 module _ {P : Type 0} (out : List P) (p : P) where
@@ -36,7 +44,6 @@ module _ {K W : Type 0} (places : W → ℕ) (waiting : W → ℕ → Option K) 
     pub below : (d : ℕ × K) (i : ℕ) → i < length out → (q : ℕ) (k : K) → waiting w q ≡ Some k → leq (get_or out i d).1 k ≡ true
     pub gone : (d : ℕ × K) (i : ℕ) → i < length out → waiting w (get_or out i d).0 ≡ None
     pub rest : (q : ℕ) (k : K) → waiting s q ≡ Some k → (waiting w q ≡ Some k) ⊎ Given out q k
-    pub count : length out + counted (waiting w) (places w) ≡ counted (waiting s) (places s)
     pub kept : places w ≡ places s
     pub still : ordered w
 
@@ -110,10 +117,6 @@ module _ {K W : Type 0} (places : W → ℕ) (waiting : W → ℕ → Option K) 
       below = below_more;
       gone = gone_more;
       rest = rest_more;
-      count =
-          let fewer = counted_less (waiting w) (waiting t) (places w) rank key taken.within taken.here taken.gone taken.only.same in
-          let size : counted (waiting t) (places t) ≡ counted (waiting t) (places w) = ap (counted (waiting t)) taken.only.kept in
-          omega (arith, length_push out (rank, key), part.count);
       kept = taken.only.kept ∙ part.kept;
       still = taken.only.still;
     }
@@ -133,11 +136,11 @@ module _ {K W : Type 0} (places : W → ℕ) (waiting : W → ℕ → Option K) 
     }
 
     -- as many are given as there are places
-    pub part_full : ((q : ℕ) → ordered w → places w ≤ q → waiting w q ≡ None) → places s ≤ length out → Drained places waiting ordered leq s out w
-    part_full within full =
-        let zero : counted (waiting w) (places w) ≡ 0 = omega (arith, part.count, counted_bound (waiting s) (places s)) in
-        let none : (q : ℕ) → waiting w q ≡ None = (λ q. elim (dec_lt q (places w)) [
-          | yes l ↦ counted_zero (waiting w) (places w) zero q l
-          | no past ↦ within q part.still (omega arith)
-        ]) in
+    pub part_full : ((u : W) (q : ℕ) → ordered u → places u ≤ q → waiting u q ≡ None) → ordered s → places s ≤ length out → Drained places waiting ordered leq s out w
+    part_full within o full =
+        let low : (d : ℕ × K) (i : ℕ) → i < length out → (get_or out i d).0 < places s = (λ d i l. within_places (within s) o _ _ (part.waited d i l)) in
+        let none : (q : ℕ) → waiting w q ≡ None = (λ q. none_unless (waiting w q) (λ k h.
+        let here : q < places s = omega (arith, within_places (within w) part.still q k h, part.kept) in
+        let more = room out (places s) q k part.once low here (λ d i l e. clash (waiting w q) k h (ap (waiting w) (sym e) ∙ part.gone d i l)) in
+        omega (arith, more, full))) in
         part_end w (record { before = none; after = record { sized = refl; none = none; still = part.still } })
