@@ -19,10 +19,7 @@ pub(crate) struct Gave<K: Key> {
 
 // Puts a key that is made from a number, and says whether the list took it.
 fn put_at<K: Numbered, W: WaitingList<Key = K>>(w: &mut W, rank: u64, n: u64) -> bool {
-    match w.put(rank as usize, K::numbered(n)) {
-        Ok(()) => true,
-        Err(refusal) => refusal.number() != 17,
-    }
+    w.put(rank as usize, K::numbered(n)).is_ok()
 }
 
 // Puts and takes in turn, and a clear in the middle. No two ranks have equal keys, and a few ranks are past the capacity.

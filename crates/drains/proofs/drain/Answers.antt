@@ -25,4 +25,4 @@ returns g c o =
     let m = g.W.WaitingList in
     let part = c.loop.invariant.2 o in
     part_full m.places m.waiting m.ordered g.W.Key.Key.leq c.args.w.now (vec_items c.loop.out) c.loop.w part
-    (g.met.W.WaitingList.within c.loop.w) (omega (arith, c.loop.out.ok.0, c.capacity-capacity.ensures))
+    g.met.W.WaitingList.within o (omega (arith, c.loop.out.ok.0, c.capacity-capacity.ensures))
