@@ -6,7 +6,7 @@ ghost use Rattle.tasks.specs.Contents.{contents, model_in};
 use super::Card;
 use crate::task::Task;
 use drafts::{Draft, Variable};
-use fields::Field;
+use fields::{Field, Place};
 use std::alloc::{AllocError, Global};
 
 impl<'a> Card<'a> {
@@ -18,8 +18,7 @@ impl<'a> Card<'a> {
         let idle = Variable {
             name: Field::Name {
                 text: b"idle",
-                line: 0,
-                field: 0,
+                place: Place { line: 0, field: 0 },
             },
             size: 2,
             start: 0,

@@ -1,5 +1,5 @@
 // The parts of a task, gathered from what was read.
-ghost use Rattle.std.specs.Prelude.{◌≡◌, ◌≤◌, map, vec_len, IfOk};
+ghost use Rattle.std.specs.Prelude.{◌≡◌, map, IfOk};
 ghost use Rattle.cards.specs.Content.{task_of, Lawful};
 ghost use Rattle.cards.specs.Reading.{content};
 ghost use Rattle.drafts.specs.View.{said};
@@ -22,7 +22,6 @@ fn sizes_of<'a>(heap: Global, draft: &Draft<'a>) -> Result<Vec<u8>, AllocError>
 
 // What the goal asks, variable by variable.
 fn goal_of<'a>(heap: Global, draft: &Draft<'a>) -> Result<Vec<Fact>, AllocError>
-    requires { vec_len draft.now.variables ≤ 16 }
     ensures { IfOk result (λ v. v.items ≡ (task_of (content (said draft.now))).goal) }
 {
     draft
