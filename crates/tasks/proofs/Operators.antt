@@ -1,9 +1,11 @@
--- An operator that is read from a task's list is the model's.
-use Rattle.std.proofs.Common.{◌≡◌, ℕ, ◌<◌, List, map, length, get_or, sym, ap, ◌∙◌}
-use Rattle.std.proofs.lemmas.List.{get_or-map}
-use Rattle.sas.specs.States.{idle}
+-- Clones of operators have the actions of what they are clones of.
+use Rattle.std.proofs.Common.{◌≡◌, List, [], ◌∷◌, map, refl}
+use Rattle.std.specs.List.{AllZip}
 use Rattle.tasks.specs.Parts.{action}
 use Rattle.tasks.specs.declared.task.Operator.{Operator}
 
-pub action_read : (xs : List Operator) (o : ℕ) (x : Operator) → o < length xs → x ≡ get_or xs o x → get_or (map action xs) o idle ≡ action x
-action_read xs o x within read = get_or-map action xs o x idle within ∙ ap action (sym read)
+pub actions_cloned : (clones : Operator → Operator → Type 0) → ((x y : Operator) → clones x y → action y ≡ action x) → (xs ys : List Operator) → AllZip clones xs ys → map action ys ≡ map action xs
+actions_cloned clones same [] [] h = refl
+actions_cloned clones same [] (y ∷ ys) h = absurd h
+actions_cloned clones same (x ∷ xs) [] h = absurd h
+actions_cloned clones same (x ∷ xs) (y ∷ ys) h = λ i. same x y h.0 i ∷ actions_cloned clones same xs ys h.1 i
