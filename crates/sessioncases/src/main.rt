@@ -1,7 +1,7 @@
 // Runs sessions on the sample card and prints what each call answers.
 #![tactic(auto)]
 
-use anyhow::anyhow;
+use anyhow::{Context, anyhow};
 use session::{Call, Refusal, Returned, Session};
 use std::alloc::{AllocError, Global};
 use tasks::Card;
@@ -24,10 +24,7 @@ const NONE: usize = 5;
 const PLAN: [usize; 5] = [LOWER, SPIN, MEASURE, HALT, RAISE];
 
 fn number(refusal: &Refusal) -> anyhow::Result<u8> {
-    match refusal.number() {
-        Some(number) => Ok(number),
-        None => Err(anyhow!("no memory")),
-    }
+    refusal.number().context("no memory")
 }
 
 fn tell(rt: &HostRuntime, case: &str, answer: Result<(), Refusal>) -> anyhow::Result<()> {
@@ -69,11 +66,10 @@ fn check(rt: &HostRuntime, session: &Session, case: &str, steps: &[usize]) -> an
 }
 
 fn costs(heap: Global, card: &Card<'_>) -> Result<Vec<u32>, AllocError> {
-    let mut all = Vec::new(heap);
-    for cost in card.costs(heap)?.as_slice() {
-        all.push(u32::from(*cost))?;
-    }
-    Ok(all)
+    card.costs(heap)?
+        .iter()
+        .map(|cost| u32::from(*cost))
+        .collect(heap)
 }
 
 fn open(
@@ -83,10 +79,17 @@ fn open(
     costs: &[u32],
     values: &[u8],
 ) -> anyhow::Result<()> {
-    match Session::open(rt.alloc(), card.task(), costs, values) {
-        Ok(_) => tell(rt, case, Ok(())),
-        Err(refusal) => tell(rt, case, Err(refusal)),
-    }
+    let opened = Session::open(rt.alloc(), card.task(), costs, values);
+    tell(rt, case, opened.map(|_| ()))
+}
+
+// A session on the card's start and costs.
+fn opened(heap: Global, card: &Card<'_>) -> anyhow::Result<Session> {
+    let costs = costs(heap, card)?;
+    let start = card.start(heap)?;
+    Session::open(heap, card.task(), costs.as_slice(), start.as_slice()).map_err(|_| anyhow!(
+        "no session"
+    ))
 }
 
 fn openings(rt: &HostRuntime, card: &Card<'_>) -> anyhow::Result<()> {
@@ -270,25 +273,16 @@ fn worn(rt: &HostRuntime, session: &mut Session) -> anyhow::Result<()> {
 fn run(rt: &HostRuntime) -> anyhow::Result<()> {
     let heap = rt.alloc();
     let mut card = Card::built_in(heap)?;
-    if card.read(heap, CARD).is_err() {
-        return Err(anyhow!("the sample is not read"));
-    }
+    card.read(heap, CARD)
+        .map_err(|_| anyhow!("the sample is not read"))?;
     openings(rt, &card)?;
-    let costs = costs(heap, &card)?;
-    let start = card.start(heap)?;
-    let opened = Session::open(heap, card.task(), costs.as_slice(), start.as_slice());
-    let Ok(mut session) = opened else {
-        return Err(anyhow!("no session"));
-    };
+    let mut session = opened(heap, &card)?;
     rows(rt, &mut session)?;
     steps(rt, &mut session)?;
     tickets(rt, &mut session)?;
     checks(rt, &mut session)?;
     trials(rt, &mut session)?;
-    let opened = Session::open(heap, card.task(), costs.as_slice(), start.as_slice());
-    let Ok(mut other) = opened else {
-        return Err(anyhow!("no session"));
-    };
+    let mut other = opened(heap, &card)?;
     astray(rt, &mut session, &mut other)?;
     tell(rt, "halt", following::step(&mut session, HALT))?;
     worn(rt, &mut session)

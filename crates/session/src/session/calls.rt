@@ -22,6 +22,7 @@ pub enum Call {
 }
 
 impl Session {
+    // By cases: the calls of a list are values.
     pub fn call(&mut self, call: Call) -> Result<(), Refusal>
         ensures answer { Leads call (bench self.old) (leads result (bench self.new)) }
         ensures unchanged { OnErr result (bench self.new ≡ bench self.old) }

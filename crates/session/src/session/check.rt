@@ -69,6 +69,7 @@ impl Session {
         ensures { Checked (bench self.now) steps.now result }
     {
         self.idle().map_err(|_| CheckFault::Busy)?;
+        // Fixed room: a check takes no memory.
         let mut room = [0u8; 16];
         let values = &mut room[..states::variables(&self.task)];
         values.copy_from_slice(self.state.as_slice());

@@ -27,7 +27,7 @@ impl Session {
         if !payable(costs) {
             return Err(Refusal::CostTooHigh);
         }
-        let task = task.copied(heap)?;
+        let task = task.clone()?;
         let state = Vec::from_slice(heap, values)?;
         let rows = Rows::new(heap, costs)?;
         Ok(Session {
