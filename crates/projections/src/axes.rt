@@ -10,7 +10,7 @@ mod keeps;
 
 // Together they have at most 1048576 states, and each has the coefficient of its number.
 #[derive(Drop)]
-pub struct Axes {
+pub(crate) struct Axes {
     pub(crate) list: Vec<Axis>,
     ghost few: { product (axis_sizes list.items) ≤ 1048576 },
     ghost scaled: { axis_coefficients list.items ≡ scales (axis_sizes list.items) },

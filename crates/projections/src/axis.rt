@@ -2,7 +2,7 @@
 ghost use Rattle.std.specs.Prelude.{◌*◌, ◌<◌, ◌≤◌};
 
 #[derive(Clone, Copy)]
-pub struct Axis {
+pub(crate) struct Axis {
     pub(crate) size: u8,
     pub(crate) coefficient: usize,
     pub(crate) place: usize,

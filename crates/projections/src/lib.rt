@@ -1,8 +1,8 @@
 // A task seen through some of its variables, by the ranks of its states.
 #![tactic(auto)]
 
-pub mod axes;
-pub mod axis;
+mod axes;
+mod axis;
 pub mod moves;
 mod pattern;
 pub mod projection;
