@@ -14,6 +14,7 @@ pub trait Key: Copy {
 
     ghost total: { (x y : Self) → (leq x y ≡ true) ⊎ (leq y x ≡ true) };
 
+    // Equal values of an `Ord` need not be the same, so that each kind of key has an impl of its own.
     ghost antisym: { (x y : Self) → leq x y ≡ true → leq y x ≡ true → x ≡ y };
 
     ghost trans: { (x y z : Self) → leq x y ≡ true → leq y z ≡ true → leq x z ≡ true };
