@@ -5,7 +5,6 @@ use Rattle.fields.specs.declared.faults.LineFault.{LineFault}
 use Rattle.fields.specs.declared.faults.LineFault.TheVariants.{Order}
 use Rattle.cards.specs.Reading.{Placed, Reading, ◌>>=◌, on_last, part_place, add_part, with_opers, pattern_place, indices_on, distinct_on, with_pattern, add_pattern}
 use Rattle.drafts.specs.View.{placed, said}
-use Rattle.drafts.specs.declared.parts.Variable.{Variable}
 use Rattle.drafts.specs.declared.parts.DraftOperator.{DraftOperator}
 use Rattle.drafts.specs.declared.parts.Draft.{Draft}
 
@@ -19,13 +18,12 @@ on_last_lem e f [] x = refl
 on_last_lem e f (z ∷ []) x = bind_twice (f x) (λ y. y ∷ []) (λ ys. z ∷ ys)
 on_last_lem e f (z ∷ w ∷ zs) x = ap (λ r. r >>= (λ ys. Ok (z ∷ ys))) (on_last_lem e f (w ∷ zs) x) ∙ bind_twice (f x) (λ y. (w ∷ zs) ++ y ∷ []) (λ ys. z ∷ ys)
 
--- the last operator o after f, which reads the variables
-pub part_on : (f : List Variable → Placed → Result Placed LineFault) (l : ℕ) (d : Draft) (rest : List DraftOperator) (o : DraftOperator) (vs : List Variable) (u : Unit {0}) (r : Result Placed LineFault) → vs ≡ vec_items d.variables → vec_items d.operators ≡ rest ++ o ∷ [] → Ok u ≡ part_place l (said d) → f vs (placed o) ≡ r → add_part l (said d) (f (vec_items d.variables)) ≡ (r >>= (λ p. Ok (with_opers (said d) (map placed rest ++ p ∷ []))))
-part_on f l d rest o vs u r ev e place q =
-    let g : Placed → Result Placed LineFault = f (vec_items d.variables) in
-    ap (λ p. p >>= (λ _. on_last (Order l) g (said d).opers >>= (λ os. Ok (with_opers (said d) os)))) (sym place)
-    ∙ ap (λ ws. on_last (Order l) g ws >>= (λ os. Ok (with_opers (said d) os))) (ap (map placed) e ∙ map_push placed rest o)
-    ∙ ap (λ p. p >>= (λ os. Ok (with_opers (said d) os))) (on_last_lem (Order l) g (map placed rest) (placed o) ∙ ap (λ p. p >>= (λ y. Ok (map placed rest ++ y ∷ []))) (ap (λ ws. f ws (placed o)) (sym ev) ∙ q))
+-- the last operator o after f
+pub part_on : (f : Placed → Result Placed LineFault) (l : ℕ) (d : Draft) (rest : List DraftOperator) (o : DraftOperator) (u : Unit {0}) (r : Result Placed LineFault) → vec_items d.operators ≡ rest ++ o ∷ [] → Ok u ≡ part_place l (said d) → f (placed o) ≡ r → add_part l (said d) f ≡ (r >>= (λ p. Ok (with_opers (said d) (map placed rest ++ p ∷ []))))
+part_on f l d rest o u r e place q =
+    ap (λ p. p >>= (λ _. on_last (Order l) f (said d).opers >>= (λ os. Ok (with_opers (said d) os)))) (sym place)
+    ∙ ap (λ ws. on_last (Order l) f ws >>= (λ os. Ok (with_opers (said d) os))) (ap (map placed) e ∙ map_push placed rest o)
+    ∙ ap (λ p. p >>= (λ os. Ok (with_opers (said d) os))) (on_last_lem (Order l) f (map placed rest) (placed o) ∙ ap (λ p. p >>= (λ y. Ok (map placed rest ++ y ∷ []))) q)
     ∙ bind_twice r (λ y. map placed rest ++ y ∷ []) (with_opers (said d))
 
 pub pattern_on : (l : ℕ) (s : Reading) (ts : List (List ℕ)) (n : ℕ) (u : Unit {0}) (r : Result (List ℕ) LineFault) → n ≡ length s.vars → Ok u ≡ pattern_place l s → indices_on l n [] ts ≡ r → add_pattern l s ts ≡ (r >>= (λ vs. distinct_on l [] vs >>= (λ _. Ok (with_pattern s vs))))

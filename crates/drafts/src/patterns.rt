@@ -10,6 +10,7 @@ use fields::{FieldFault, LineFault, Pieces, Place};
 use std::alloc::Global;
 
 // The numbers that the fields write, each below `n`.
+// A loop: a chain that collects does not say that it fails where a field does.
 pub(crate) fn indices<'a>(
     heap: Global,
     line: usize,

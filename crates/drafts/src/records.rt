@@ -47,7 +47,7 @@ impl<'a> Draft<'a> {
     {
         self.part_place(line)?;
         let mut o = self.operators.pop().ok_or(LineFault::Order { line })?;
-        T::add_to(&mut o, line, self.variables.as_slice(), texts)?;
+        T::add_to(&mut o, self, line, texts)?;
         self.operators.push(o)?;
         Ok(())
     }

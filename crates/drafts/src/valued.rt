@@ -1,12 +1,11 @@
 // Preconditions and effects: each gives a value to a variable, and an operator has at most 8, no variable twice.
-ghost use Rattle.std.specs.Prelude.{◌≡◌, ℕ, ◌<◌, ◌≤◌, List, map, length};
-ghost use Rattle.cards.specs.Content.{sizes};
+ghost use Rattle.std.specs.Prelude.{◌≡◌, ℕ, List, map};
 ghost use Rattle.cards.specs.Reading.{Placed, valued_of, member, add_valued, make_precondition, make_fact};
-ghost use Rattle.drafts.specs.View.{plain_var, placed};
+ghost use Rattle.drafts.specs.View.{placed, said};
 ghost use Rattle.drafts.specs.Parts.{add_to, with_preconditions, with_effects};
 ghost use Rattle.drafts.specs.Told.{GivesLine};
 
-use crate::parts::{DraftOperator, Variable};
+use crate::parts::{Draft, DraftOperator};
 use crate::values::number_at;
 use cards::CardFault;
 use fields::{FieldFault, LineFault, Place, ValueTexts};
@@ -34,12 +33,11 @@ pub(crate) trait Part: Valued {
     // One more for the operator.
     fn add_to<'a>(
         operator: &mut DraftOperator<'a>,
+        draft: &Draft<'a>,
         line: usize,
-        variables: &[Variable<'a>],
         texts: ValueTexts<'a>,
     ) -> Result<(), CardFault>
-        requires { length variables.now ≤ 16 }
-        ensures { GivesLine result (placed operator.new) (add_to Self.of Self.make parts with_parts line (map plain_var variables.now) texts.entry.variable.now texts.entry.value.now (placed operator.old)) };
+        ensures { GivesLine result (placed operator.new) (add_to Self.of Self.make parts with_parts line (said draft.now).vars texts.entry.variable.now texts.entry.value.now (placed operator.old)) };
 }
 
 impl Valued for Precondition {
@@ -63,11 +61,11 @@ impl Part for Precondition {
 
     fn add_to<'a>(
         operator: &mut DraftOperator<'a>,
+        draft: &Draft<'a>,
         line: usize,
-        variables: &[Variable<'a>],
         texts: ValueTexts<'a>,
     ) -> Result<(), CardFault> {
-        add_valued(line, variables, &mut operator.preconditions, texts)
+        add_valued(draft, line, &mut operator.preconditions, texts)
     }
 }
 
@@ -92,31 +90,28 @@ impl Part for Fact {
 
     fn add_to<'a>(
         operator: &mut DraftOperator<'a>,
+        draft: &Draft<'a>,
         line: usize,
-        variables: &[Variable<'a>],
         texts: ValueTexts<'a>,
     ) -> Result<(), CardFault> {
-        add_valued(line, variables, &mut operator.effects, texts)
+        add_valued(draft, line, &mut operator.effects, texts)
     }
 }
 
 // A variable and one of its values.
 fn valued_of<'a>(
+    draft: &Draft<'a>,
     line: usize,
-    variables: &[Variable<'a>],
     texts: ValueTexts<'a>,
 ) -> Result<(u8, u8), LineFault>
-    requires { length variables.now ≤ 16 }
-    ensures { result ≡ valued_of line (map plain_var variables.now) texts.entry.variable.now texts.entry.value.now }
+    ensures { result ≡ valued_of line (said draft.now).vars texts.entry.variable.now texts.entry.value.now }
 {
-    let v = number_at(
-        texts.variable,
-        Place { line, field: 2 },
-        0,
-        variables.len() as u32,
-    )?;
+    let variables = draft.variables.as_slice();
+    let place = Place { line, field: 2 };
+    let v = number_at(texts.variable, place, 0, variables.len() as u32)?;
     let size = variables[v as usize].size;
-    let x = number_at(texts.value, Place { line, field: 3 }, 0, u32::from(size))?;
+    let place = Place { line, field: 3 };
+    let x = number_at(texts.value, place, 0, u32::from(size))?;
     Ok((v as u8, x as u8))
 }
 
@@ -127,18 +122,17 @@ fn has<T: Valued>(parts: &[T], v: u8) -> bool
 }
 
 fn add_valued<'a, T: Valued>(
+    draft: &Draft<'a>,
     line: usize,
-    variables: &[Variable<'a>],
     parts: &mut Vec<T>,
     texts: ValueTexts<'a>,
 ) -> Result<(), CardFault>
-    requires { length variables.now ≤ 16 }
-    ensures { GivesLine result parts.new.items (add_valued T.Valued.of T.Valued.make line (map plain_var variables.now) texts.entry.variable.now texts.entry.value.now parts.old.items) }
+    ensures { GivesLine result parts.new.items (add_valued T.Valued.of T.Valued.make line (said draft.now).vars texts.entry.variable.now texts.entry.value.now parts.old.items) }
 {
     if parts.len() >= 8 {
         return Err(CardFault::InLine(LineFault::Many { line }));
     }
-    let (v, x) = valued_of(line, variables, texts)?;
+    let (v, x) = valued_of(draft, line, texts)?;
     if has(parts.as_slice(), v) {
         let place = Place { line, field: 2 };
         return Err(CardFault::InLine(LineFault::InField(FieldFault::Twice(place))));

@@ -83,28 +83,20 @@ pub fn number_or_dash<'a>(text: &'a [u8], place: Place) -> Result<Field<'a>, Fie
     }
 }
 
-fn name_byte(b: u8) -> bool
-    ensures { result ≡ between 33 126 b }
-{
-    matches!(b, b'!'..=b'~')
-}
-
 fn is_name(text: &[u8]) -> bool
     ensures { result ≡ is_name text.now }
 {
-    (1..=16).contains(&text.len()) && text.iter().all(|b| name_byte(*b))
-}
-
-fn is_digit(b: u8) -> bool
-    ensures { result ≡ between 48 57 b }
-{
-    matches!(b, b'0'..=b'9')
+    (1..=16).contains(&text.len()) && text.iter().all(|b| b.is_ascii_graphic())
 }
 
 fn digit(b: u8) -> Option<u8>
     ensures { result ≡ (if between 48 57 b then Some (b - 48) else None) }
 {
-    if is_digit(b) { Some(b - b'0') } else { None }
+    if b.is_ascii_digit() {
+        Some(b - b'0')
+    } else {
+        None
+    }
 }
 
 // Whether `text` is a decimal numeral, however long.
@@ -114,7 +106,7 @@ fn is_numeral(text: &[u8]) -> bool
     if text.is_empty() || text.len() > 1 && text[0] == b'0' {
         return false;
     }
-    text.iter().all(|b| is_digit(*b))
+    text.iter().all(|b| b.is_ascii_digit())
 }
 
 // The number that `text` writes, if it is a decimal numeral of at most `limit`.

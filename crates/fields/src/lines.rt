@@ -92,34 +92,35 @@ fn by_letter<'a>(
     }
 }
 
+// Two functions, not one over a count: an array of texts that a loop fills gets no proof.
 fn four_fields<'a>(line: usize, mut fields: Pieces<'a>) -> Result<Option<Record<'a>>, LineFault>
     ensures { map_ok plain_some result ≡ four line (left fields.entry) }
 {
-    let fault = LineFault::Shape { line };
-    let name = fields.next().ok_or(fault)?;
-    let size = fields.next().ok_or(fault)?;
-    let start = fields.next().ok_or(fault)?;
-    let goal = fields.next().ok_or(fault)?;
-    match fields.next() {
-        None => Ok(Some(Record::Variable(VariableTexts {
-            name,
-            size,
-            start,
-            goal,
-        }))),
-        Some(_) => Err(fault),
+    match (
+        fields.next(),
+        fields.next(),
+        fields.next(),
+        fields.next(),
+        fields.next(),
+    ) {
+        (Some(name), Some(size), Some(start), Some(goal), None) => {
+            Ok(Some(Record::Variable(VariableTexts {
+                name,
+                size,
+                start,
+                goal,
+            })))
+        }
+        _ => Err(LineFault::Shape { line }),
     }
 }
 
 fn two_fields<'a>(line: usize, mut fields: Pieces<'a>) -> Result<(&'a [u8], &'a [u8]), LineFault>
     ensures { (make : List ℕ → List ℕ → Cut) → map_ok (λ t. Some (make t.0.now t.1.now)) result ≡ two make line (left fields.entry) }
 {
-    let fault = LineFault::Shape { line };
-    let a = fields.next().ok_or(fault)?;
-    let b = fields.next().ok_or(fault)?;
-    match fields.next() {
-        None => Ok((a, b)),
-        Some(_) => Err(fault),
+    match (fields.next(), fields.next(), fields.next()) {
+        (Some(a), Some(b), None) => Ok((a, b)),
+        _ => Err(LineFault::Shape { line }),
     }
 }
 
