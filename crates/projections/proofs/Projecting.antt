@@ -1,9 +1,9 @@
 -- What a step and a goal state of the whole task are in the projected one.
-use Rattle.std.proofs.Common.{◌≡◌, ℕ, zero, suc, ◌<◌, Bool, List, [], ◌∷◌, map, length, get_or, sym, refl, ap, ◌∙◌, subst, arith}
+use Rattle.std.proofs.Common.{◌≡◌, ℕ, ◌<◌, Bool, List, [], ◌∷◌, length, sym, refl, ap, ◌∙◌, subst, arith}
 use Rattle.std.specs.List.{AllByRecursion}
 use Rattle.std.proofs.Math.ListN.{get_or-map}
 use Rattle.std.proofs.lemmas.List.{length-map}
-use Rattle.sas.specs.Model.{Action, Model, Rules}
+use Rattle.sas.specs.Model.{Model, Rules}
 use Rattle.sas.specs.States.{State, Holds, Stands, Step, outcome, operator, idle}
 use Rattle.sas.specs.declared.Fact.{Fact}
 use Rattle.sas.proofs.Steps.{applies_is, step_is, goal_is}

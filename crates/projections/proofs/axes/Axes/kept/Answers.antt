@@ -1,7 +1,7 @@
 -- A variable is kept with its coefficients, or passed.
-use Rattle.std.proofs.Common.{vec_items, sym, refl, ap, subst, arith}
+use Rattle.std.proofs.Common.{vec_items, refl, ap, arith}
 use Rattle.projections.specs.Projection.{among}
-use Rattle.projections.proofs.Laying.{KeptSoFar, all_few, coefficient_pos, kept_few, kept_none, kept_passed, kept_places, kept_pushed, kept_sizes, place_few, place_pos, size_there}
+use Rattle.projections.proofs.Laying.{all_few, coefficient_pos, kept_few, kept_passed, kept_places, kept_pushed, kept_sizes, place_few, place_pos, size_there}
 use Rattle.projections.proofs.axes.Axes.kept.Goals as goal
 use Rattle.projections.proofs.axes.Axes.kept.Goals.{then-has+in_ok-push, else-has}
 
