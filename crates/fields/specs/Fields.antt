@@ -7,7 +7,7 @@ use Rattle.fields.specs.declared.field.Field.TheVariants.{Name, Number, Dash}
 use Rattle.fields.specs.declared.faults.FieldFault.{FieldFault}
 use Rattle.fields.specs.declared.faults.FieldFault.TheVariants.{NoName, NoNumber}
 
--- field f of line l, both from 1
+-- field f of line l, both from 1, or each 0 where there is none
 abbrev pub at : ℕ → ℕ → Place
 at l f = record { line = l; field = f }
 
