@@ -99,8 +99,6 @@ pub(super) fn at_rank<T, F: FnOnce(&mut [u8]) -> T>(task: &Task, rank: usize, f:
 pub fn state(heap: Global, task: &Task, rank: usize) -> Result<Vec<u8>, StateRefusal>
     ensures { MatchResult result (λ v. StateOf (model_of task.now) rank v.items) (Unranked (model_of task.now) rank) }
 {
-    let values = at_rank(task, rank, |values| Vec::from_slice(heap, values)).ok_or(
-        StateRefusal::NoRank,
-    )?;
-    Ok(values?)
+    let values = at_rank(task, rank, |values| Vec::from_slice(heap, values));
+    Ok(values.ok_or(StateRefusal::NoRank)??)
 }

@@ -6,8 +6,7 @@ ghost use Rattle.std.specs.List.{AllByRecursion};
 ghost use Rattle.states.specs.Ranked.{RankOf};
 ghost use Rattle.tasks.specs.View.{model_of};
 
-use crate::ranks;
-use crate::ranks::{at_rank, is_state};
+use crate::ranks::{at_rank, is_state, rank};
 use sas::Fact;
 use tasks::Task;
 
@@ -73,7 +72,7 @@ fn rank_after(task: &Task, operator: usize, values: &mut [u8]) -> Option<usize>
     if !apply(task, operator, values) {
         return None;
     }
-    ranks::rank(task, values).ok()
+    rank(task, values).ok()
 }
 
 // The rank to which an operator leads.

@@ -1,7 +1,6 @@
 -- Where the operator applies, the effects that are put in make its step.
 use Rattle.std.proofs.Common.{◌<◌, length, sym, ap, ◌∙◌, subst, arith}
 use Rattle.std.specs.List.{AllByRecursion}
-use Rattle.std.proofs.lemmas.Bool.{false≢true}
 use Rattle.sas.specs.States.{outcome}
 use Rattle.sas.proofs.Rules.{rules}
 use Rattle.sas.proofs.Steps.{applies_is, step_is, effects_inside}
@@ -32,8 +31,8 @@ put-requires c =
     let read = operator_read m xs o c.index-operators-operator.result c.operators.ensures within c.index-operators-operator.is in
     subst (AllByRecursion (λ f. f.variable < length s)) (sym (c.effects.ensures ∙ ap (λ a. a.effects) read)) (effects_inside m (rules m t.rules) o s applies)
 
-pub returns : goal.returns
-returns c =
+pub returns-clause-moved : goal.returns-clause-moved
+returns-clause-moved c _ =
     let m = model_of c.args.task.now in
     let o = c.args.operator in
     let s = c.args.values.now in
@@ -41,8 +40,4 @@ returns c =
     let applies = c.applies.ensures.0 c.if-not-applies.false in
     let within : o < length xs = omega (arith, ((applies_is m o s).0 applies).0, operator_count m xs c.operators.ensures) in
     let read = operator_read m xs o c.index-operators-operator.result c.operators.ensures within c.index-operators-operator.is in
-    record {
-      moved = λ _. (step_is m o s c.put.new.values).1 (applies, c.put.ensures ∙ ap (λ fs. outcome fs s) (c.effects.ensures ∙ ap (λ a. a.effects) read));
-      kept = λ e. absurd (false≢true (sym e));
-      refused = λ e. absurd (false≢true (sym e));
-    }
+    (step_is m o s c.put.new.values).1 (applies, c.put.ensures ∙ ap (λ fs. outcome fs s) (c.effects.ensures ∙ ap (λ a. a.effects) read))
