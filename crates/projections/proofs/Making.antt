@@ -1,11 +1,13 @@
 -- What is left of an operator and of a task, from their parts.
-use Rattle.std.proofs.Common.{◌≡◌, ℕ, ◌<◌, ◌+◌, Bool, true, false, cond, ◌||◌, ◌==◌, List, [], ◌∷◌, ◌++◌, map, filter, not, length, get_or, take, sym, refl, ap, ◌∙◌}
+use Rattle.std.proofs.Common.{◌≡◌, ℕ, ◌<◌, Bool, true, false, cond, ◌||◌, ◌==◌, List, [], ◌∷◌, map, filter, not, length, get_or, sym, refl, ap, ◌∙◌, Result, Vec, vec_items, Ok, Err, IfOk, Global}
 use Rattle.std.specs.List.{list_any}
-use Rattle.std.proofs.lemmas.List.{map_push}
+use Rattle.std.proofs.lemmas.Simd.{map-map}
 use Rattle.sas.specs.Model.{Action, Model}
 use Rattle.sas.specs.declared.Fact.{Fact}
 use Rattle.sas.specs.declared.Precondition.{Precondition}
-use Rattle.tasks.proofs.Gathering.{gathered_more}
+use Rattle.tasks.specs.Parts as Tasks
+use Rattle.tasks.specs.declared.task.Operator.{Operator}
+use Rattle.tasks.proofs.Collecting.{each_made}
 use Rattle.projections.specs.Asked.{as_fact, as_precondition, at_zero}
 use Rattle.projections.specs.Origins.{asks, unasked}
 use Rattle.projections.specs.Parts.{action}
@@ -54,10 +56,10 @@ moved_is keep a asked slice facts effects fs ps is sliced as-facts from-ps set f
 pub free_is : (free asked effects asked_slice effects_slice : List Fact) → free ≡ map at_zero (unasked (map as_precondition asked_slice) effects_slice) → asked_slice ≡ asked → effects_slice ≡ effects → free ≡ map at_zero (unasked (map as_precondition asked) effects)
 free_is free asked effects asked_slice effects_slice is a e = is ∙ ap (λ gs. map at_zero (unasked (map as_precondition gs) effects_slice)) a ∙ ap (λ gs. map at_zero (unasked (map as_precondition asked) gs)) e
 
--- one more operator
-pub moved_more : {O : Type 0} (left : O → Action) (ops : List O) (i : ℕ) (was pushed : List Move) (one : Move) (o : O) → i < length ops → map action was ≡ take i (map left ops) → pushed ≡ was ++ one ∷ [] → action one ≡ left o → o ≡ get_or ops i o → map action pushed ≡ take (i + 1) (map left ops)
-moved_more left ops i was pushed one o within so_far p is read =
-    ap (map action) p ∙ map_push action was one ∙ ap (λ a. map action was ++ a ∷ []) (is ∙ ap left read) ∙ gathered_more left ops (map action was) i so_far o within
+-- what is left of each operator, where the list is made of where each one is
+pub moves_collected : {E : Type 0} (keep : ℕ → Bool) (os : List Operator) (r : Result (Vec Move Global) E) → IfOk r (λ v. length (vec_items v) ≡ length os) → IfOk r (λ v. (k : ℕ) (m : Move) (o : Operator) → k < length os → action (get_or (vec_items v) k m) ≡ projected_action keep (Tasks.action (get_or os k o))) → IfOk r (λ v. map action (vec_items v) ≡ map (projected_action keep) (map Tasks.action os))
+moves_collected keep os (Ok v) len each = each_made action (λ o. projected_action keep (Tasks.action o)) (vec_items v) os len each ∙ sym (map-map (projected_action keep) Tasks.action os)
+moves_collected keep os (Err e) len each = tt
 
 -- the task that a projection holds, from its parts and what they were made from
 pub model_is : (keep : ℕ → Bool) (m : Model) (sizes zs : List ℕ) (goal gs : List Fact) (operators os : List Action) → sizes ≡ only keep zs → zs ≡ m.sizes → goal ≡ kept_facts keep gs → gs ≡ m.goal → operators ≡ map (projected_action keep) os → os ≡ m.operators → record { sizes = sizes; goal = goal; operators = operators } ≡ projected keep m

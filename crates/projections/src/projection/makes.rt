@@ -82,15 +82,14 @@ fn moved(heap: Global, operator: &Operator, pattern: &[u8]) -> Result<Move, Allo
 }
 
 // What is left of each operator.
+#[tactic(auto, using(crate::proofs::Making::moves_collected))]
 fn all_moved(heap: Global, operators: &[Operator], pattern: &[u8]) -> Result<Vec<Move>, AllocError>
     ensures { IfOk result (λ v. map action v.items ≡ map (projected_action (among pattern.now)) (map Tasks.action operators.now)) }
 {
-    // By a loop: of a chain whose items may fail, the check does not know what it collects.
-    let mut all = Vec::new(heap);
-    for o in operators {
-        all.push(moved(heap, o, pattern)?)?;
-    }
-    Ok(all)
+    let projected = operators.iter().map(|o| -> Result<Move, AllocError> {
+        moved(heap, o, pattern)
+    });
+    projected.try_collect(heap)
 }
 
 impl Projection {
