@@ -6,6 +6,7 @@ use Rattle.sas.specs.Runs.{Run, cost}
 use Rattle.sas.specs.States.{Goal}
 use Rattle.benchplan.specs.declared.answer.Plan.{Plan}
 use Rattle.benchplan.specs.declared.refusal.Refusal.{Refusal}
+use Rattle.fields.specs.Fields.{at}
 use Rattle.benchplan.specs.Refusals.{refusal_number, refusal_place}
 
 -- no operator is barred
@@ -22,4 +23,4 @@ pub record Runs (m : Model) (start costs steps : List ℕ) (all : ℕ) : Type 0 
 -- the answer to a card that was read: a plan, 17 where it has more states than there is memory for, 20, or no number
 abbrev pub Kept : Model → List ℕ → List ℕ → Result Plan Refusal → Type 0
 Kept m start costs (Ok plan) = (states m ≤ 1024) × Runs m start costs (vec_items plan.steps) plan.cost
-Kept m start costs (Err r) = IfSome (refusal_number r) (λ n. (refusal_place r ≡ (0, 0)) × (((n ≡ 17) × (1024 < states m)) ⊎ ((n ≡ 20) × (states m ≤ 1024))))
+Kept m start costs (Err r) = IfSome (refusal_number r) (λ n. (refusal_place r ≡ at 0 0) × (((n ≡ 17) × (1024 < states m)) ⊎ ((n ≡ 20) × (states m ≤ 1024))))

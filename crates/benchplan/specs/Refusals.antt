@@ -1,5 +1,7 @@
 -- The number of a refusal, with its line and field.
 use Rattle.std.specs.Prelude.{ℕ, Some, None, Option}
+use Rattle.fields.specs.Fields.{at}
+use Rattle.fields.specs.declared.place.Place.{Place}
 use Rattle.cards.specs.Faults.{card_number, card_place}
 use Rattle.benchplan.specs.declared.refusal.Refusal.{Refusal}
 use Rattle.benchplan.specs.declared.refusal.Refusal.TheVariants.{OfCard, TooManyStates, NoPlan, Memory, Astray}
@@ -13,9 +15,9 @@ refusal_number Memory = None
 refusal_number Astray = None
 
 -- line and field, each 0 where it has none
-abbrev pub refusal_place : Refusal → ℕ × ℕ
+abbrev pub refusal_place : Refusal → Place
 refusal_place (OfCard e) = card_place e
-refusal_place TooManyStates = (0, 0)
-refusal_place NoPlan = (0, 0)
-refusal_place Memory = (0, 0)
-refusal_place Astray = (0, 0)
+refusal_place TooManyStates = at 0 0
+refusal_place NoPlan = at 0 0
+refusal_place Memory = at 0 0
+refusal_place Astray = at 0 0

@@ -4,6 +4,7 @@ ghost use Rattle.benchplan.specs.Refusals.{refusal_number, refusal_place};
 ghost use Rattle.benchplan.specs.declared.refusal.Refusal.TheVariants.{OfCard, Memory};
 
 use cards::CardFault;
+use fields::Place;
 use std::alloc::AllocError;
 use std::fmt;
 
@@ -34,12 +35,15 @@ impl Refusal {
     }
 
     // Line and field, each 0 where it has none.
-    pub fn place(&self) -> (usize, usize)
+    pub fn place(&self) -> Place
         ensures { result ≡ refusal_place self.now }
     {
         match self {
             Refusal::OfCard(fault) => fault.place(),
-            _ => (0, 0),
+            Refusal::TooManyStates | Refusal::NoPlan | Refusal::Memory | Refusal::Astray => Place {
+                line: 0,
+                field: 0,
+            },
         }
     }
 }
@@ -65,7 +69,7 @@ impl fmt::Display for Refusal {
         let Some(number) = self.number() else {
             return write!(f, "no memory for this card");
         };
-        let (line, field) = self.place();
+        let Place { line, field } = self.place();
         write!(f, "refused\t{number}\t{line}\t{field}")
     }
 }

@@ -1,4 +1,3 @@
 pub mod Collecting
-pub mod Gathering
 pub mod Operators
 pub mod Meanings
