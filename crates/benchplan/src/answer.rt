@@ -25,14 +25,13 @@ fn planned<'a>(heap: Global, card: &Card<'a>) -> Result<Plan, Refusal>
     ensures { Kept (model_in card.now) (starts (contents card.now)) (costs (contents card.now)) result }
 {
     let task = card.task();
-    let count = state_count(task);
-    if count > MOST_STATES {
+    if state_count(task) > MOST_STATES {
         return Err(Refusal::TooManyStates);
     }
     let mut values = card.start(heap)?;
     let costs = card.costs(heap)?;
     let start = rank(task, &values).map_err(|_| Refusal::Astray)?;
-    let steps = find(heap, task, &costs, count, start)?.ok_or(Refusal::NoPlan)?;
+    let steps = find(heap, task, &costs, start)?.ok_or(Refusal::NoPlan)?;
     let cost = follow(task, &costs, &mut values, &steps).ok_or(Refusal::Astray)?;
     Ok(Plan { steps, cost })
 }

@@ -1,4 +1,4 @@
-// Follows the steps of a plan.
+// Follows the steps of a plan as a session's check does, but by a card's costs and with no session: none is opened for it.
 ghost use Rattle.std.specs.Prelude.{IfSome};
 ghost use Rattle.benchplan.specs.Plans.{Runs};
 ghost use Rattle.tasks.specs.View.{model_of};

@@ -16,6 +16,7 @@ pub enum Refusal {
     TooManyStates,
     // No steps lead to a goal state.
     NoPlan,
+    // There is no memory for it.
     Memory,
     // What was found is no plan.
     Astray,
@@ -66,10 +67,13 @@ impl From<AllocError> for Refusal {
 
 impl fmt::Display for Refusal {
     fn fmt<W: fmt::Write>(&self, f: &mut fmt::Formatter<W>) -> fmt::Result {
-        let Some(number) = self.number() else {
-            return write!(f, "no memory for this card");
-        };
-        let Place { line, field } = self.place();
-        write!(f, "refused\t{number}\t{line}\t{field}")
+        match self.number() {
+            Some(number) => {
+                let Place { line, field } = self.place();
+                write!(f, "refused\t{number}\t{line}\t{field}")
+            }
+            // A search that went astray prints the same.
+            None => write!(f, "no memory for this card"),
+        }
     }
 }

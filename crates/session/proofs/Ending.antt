@@ -1,7 +1,7 @@
 -- How a step begins, and how it is done.
 use Rattle.std.proofs.Common.{◌≡◌, ℕ, ◌+◌, Bool, true, false, cond, List, Some, None, Ok, Err, Option, Result, sym, refl, ap, ◌∙◌, subst}
-use mathlib.Core.Logic.{∥∥₁_elim}
-use Rattle.std.proofs.lemmas.Bool.{false≢true, eqb-true, cond-true}
+use Rattle.std.proofs.lemmas.Bool.{false≢true, eqb-true, cond-true, true_from_ne_false}
+use Rattle.std.proofs.lemmas.Grind.{not_there}
 use Rattle.sas.specs.Model.{Model, Rules}
 use Rattle.sas.specs.States.{Applies, State, Step, operator, outcome}
 use Rattle.sas.proofs.Steps.{step_is, step_laws}
@@ -16,17 +16,10 @@ under_is : (step : Option ℕ) (o : ℕ) → under step o ≡ true → step ≡ 
 under_is None o h = absurd (false≢true h)
 under_is (Some p) o h = ap Some (eqb-true p o h)
 
-⊥_prop : (p q : ⊥) → p ≡ q
-⊥_prop p q = absurd p
-
-sure : (b : Bool) → (b ≡ false → ⊥) → b ≡ true
-sure true h = refl
-sure false h = absurd (h refl)
-
 -- the operator of the step under way makes its step
 step_made : (m : Model) (s u t : List ℕ) (step : Option ℕ) (o : ℕ) (r : Bool) → ∥ Ready step m s ∥₁ → under step o ≡ true → u ≡ s → (r ≡ true → Step m o u t) → (r ≡ false → Applies m o u → ⊥) → Step m o s t
 step_made m s u t step o r ready at same moved refused =
-    subst (λ x. Step m o x t) same (moved (sure r (λ e. ∥∥₁_elim ready ⊥_prop (λ h. refused e (subst (Applies m o) (sym same) (h o (under_is step o at)))))))
+    subst (λ x. Step m o x t) same (moved (true_from_ne_false r (λ e. not_there ready (λ h. refused e (subst (Applies m o) (sym same) (h o (under_is step o at)))))))
 
 finished_is : (o : ℕ) (b : Bench) (t : List ℕ) (w : ℕ) → under b.step o ≡ true → t ≡ outcome (operator b.model o).effects b.state → w ≡ held (b.wear + (row_at b.rows o).cost) → finished o b ≡ Ok (with_wear (with_state (with_step b None) t) w)
 finished_is o b t w at state wear =

@@ -2,4 +2,3 @@ pub mod Agree
 pub mod Back
 pub mod Ending
 pub mod Following
-pub mod Holding

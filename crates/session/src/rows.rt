@@ -1,5 +1,4 @@
-// Rows of costs and bars, one for each operator. Each change is of one row, which is lent for it; where there is no such
-// row nothing changes.
+// Rows of costs and bars, one for each operator. Where there is no such row, a change changes nothing.
 ghost use Rattle.std.specs.Prelude.{◌≡◌, map, IfOk, slice_get, slice_set};
 ghost use Rattle.session.specs.Opening.{Payable};
 ghost use Rattle.session.specs.Rows.{freed, row_at, table, with_bar, with_cost};
@@ -18,6 +17,7 @@ impl Rows {
         requires { Payable costs.now }
         ensures { IfOk result (λ t. table t ≡ map freed costs.now) }
     {
+        // By cast: `open` tries the costs before it asks for memory, so none is cut.
         let rows = costs
             .iter()
             .map(|c| Row {
@@ -44,6 +44,7 @@ impl Rows {
         })
     }
 
+    // Each of the three changes lends one row within itself: a helper that lends it to a closure needs a longer clause.
     pub(crate) fn set_cost(&mut self, i: usize, cost: u16)
         ensures { table self.new ≡ with_cost (table self.old) i cost }
     {

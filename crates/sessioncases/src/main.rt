@@ -217,6 +217,7 @@ fn trials(rt: &HostRuntime, session: &mut Session) -> anyhow::Result<()> {
 // A ticket of one session, handed to another that refuses to end its step, and then to its own.
 fn stray(a: &mut Session, b: &mut Session) -> Result<(Refusal, Refusal), Refusal> {
     let ticket = a.begin(SPIN)?;
+    // By `let else`, twice: after `err` and `ok_or` it is not proved that its own session takes the ticket.
     let answer = b.done(ticket);
     let Err(
         Returned {

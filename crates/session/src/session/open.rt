@@ -24,6 +24,7 @@ impl Session {
             return Err(Refusal::NoSuch);
         }
         states::rank(task, values).map_err(|_| Refusal::NoSuch)?;
+        // Before any memory is asked for: a cost too high is told even where there is none.
         if !payable(costs) {
             return Err(Refusal::CostTooHigh);
         }

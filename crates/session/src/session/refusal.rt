@@ -7,13 +7,21 @@ use std::alloc::AllocError;
 
 #[derive(Clone, Copy)]
 pub enum Refusal {
+    // There is no such operator, variable or value, or a wrong count of values or costs.
     NoSuch,
+    // A cost is over 65,535.
     CostTooHigh,
+    // A step is under way.
     StepUnderWay,
+    // The operator is barred.
     Barred,
+    // A precondition of the operator fails.
     Unmet,
+    // No step of the operator is under way.
     NoStep,
+    // The steps end outside the goal.
     OutsideGoal,
+    // There is no memory for it.
     Memory,
 }
 
