@@ -8,7 +8,6 @@ pub mod Laying
 pub mod Folding
 pub mod Scales
 pub mod Digits
-pub mod Chains
 pub mod Edges
 pub mod Fills
 pub mod Backward

@@ -31,10 +31,6 @@ coefficient_more sizes v l = rw add-one (coefficient_next sizes v l)
 pub coefficient_all : (sizes : List ℕ) (v : ℕ) → length sizes ≤ v → coefficient sizes v ≡ product sizes
 coefficient_all sizes v l = ap product (take_all v sizes l)
 
--- a digit's place and those before it make up no more than all
-pub coefficient_size : (sizes : List ℕ) (v : ℕ) → AllByRecursion (λ z. 0 < z) sizes → v < length sizes → coefficient sizes v * get_or sizes v 0 ≤ product sizes
-coefficient_size sizes v pos l = omega (arith, coefficient_next sizes v l, coefficient_below sizes (suc v) pos)
-
 horner_set : (sizes s : List ℕ) (v x : ℕ) → v < length sizes → length s ≡ length sizes → horner sizes (set s v x) + get_or s v 0 * coefficient sizes v ≡ horner sizes s + x * coefficient sizes v
 horner_set [] s v x l e = absurd (omega arith)
 horner_set (z ∷ zs) [] v x l e = absurd (omega arith)

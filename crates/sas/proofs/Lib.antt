@@ -8,3 +8,4 @@ pub mod Steps
 pub mod Moves
 pub mod Alike
 pub mod Digits
+pub mod Chains

@@ -37,12 +37,6 @@ module _ (m : Model) (r : Rules m) where
       let laws = step_laws m r in
       (subst (λ n. n < states m) d.3 (rank_below m d.0 (laws.from_state o d.0 d.1 d.2)), subst (λ n. n < states m) d.4 (rank_below m d.1 (laws.to_state o d.0 d.1 d.2)))
 
-  -- the step by ranks, between the states of both
-  pub step_of_ranks : (o k l : ℕ) (s t : List ℕ) → State m.sizes s → State m.sizes t → rank m.sizes s ≡ k → rank m.sizes t ≡ l → StepRank m o k l → Step m o s t
-  step_of_ranks o k l s t hs ht es et d =
-      let f = step_from m o k l s hs es d in
-      subst (Step m o s) (rank_apart m.sizes f.0 t ((step_laws m r).to_state o s f.0 f.1) ht (f.2 ∙ sym et)) f.1
-
   -- no step by ranks where none leads on from the state
   pub no_step_rank : (o k : ℕ) (s : List ℕ) → State m.sizes s → rank m.sizes s ≡ k → (Applies m o s → ⊥) → (l : ℕ) → StepRank m o k l → ⊥
   no_step_rank o k s h e never l d =

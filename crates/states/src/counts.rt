@@ -30,9 +30,5 @@ pub fn state_count(task: &Task) -> usize
     ensures count { result ≡ states (model_of task.now) }
     ensures few { result ≤ 1048576 }
 {
-    let mut count: usize = 1;
-    for size in task.sizes() {
-        count *= usize::from(*size);
-    }
-    count
+    task.sizes().iter().map(|size| usize::from(*size)).product()
 }

@@ -58,6 +58,7 @@ pub fn rank(task: &Task, values: &[u8]) -> Result<usize, StateRefusal>
     let sizes = task.sizes();
     let mut sum: usize = 0;
     let mut coefficient: usize = 1;
+    // A loop: a fold over the sum and the coefficient as a pair is no plainer.
     for (value, size) in values.iter().zip(sizes) {
         sum += coefficient * usize::from(*value);
         coefficient *= usize::from(*size);
@@ -89,6 +90,7 @@ pub(super) fn at_rank<T, F: FnOnce(&mut [u8]) -> T>(task: &Task, rank: usize, f:
     if rank >= state_count(task) {
         return None;
     }
+    // Fixed room: a step or a goal test by rank takes no memory.
     let mut room = [0u8; 16];
     let values = &mut room[..task.sizes().len()];
     unpack(task, rank, values);

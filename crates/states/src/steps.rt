@@ -1,14 +1,16 @@
 // Where operators apply, what they make of a state, and where the goal holds; by state and by rank.
 ghost use Rattle.std.specs.Prelude.{◌≡◌, ℕ, ◌<◌, true, false, List, length, Decides, MatchOption, slice_index};
 ghost use Rattle.sas.specs.Ranks.{GoalRank, StepRank, states};
-ghost use Rattle.sas.specs.States.{Applies, Goal, Holds, Stands, Step, outcome};
+ghost use Rattle.sas.specs.States as States;
+ghost use Rattle.sas.specs.States.{Applies, Goal, Step, outcome};
 ghost use Rattle.std.specs.List.{AllByRecursion};
 ghost use Rattle.states.specs.Ranked.{RankOf};
+ghost use Rattle.tasks.specs.Parts.{action};
 ghost use Rattle.tasks.specs.View.{model_of};
 
 use crate::ranks::{at_rank, is_state, rank};
 use sas::Fact;
-use tasks::Task;
+use tasks::{Operator, Task};
 
 // Whether a variable is there and has a value.
 fn has_value(values: &[u8], variable: u8, value: u8) -> bool
@@ -17,18 +19,28 @@ fn has_value(values: &[u8], variable: u8, value: u8) -> bool
     values.get(usize::from(variable)) == Some(&value)
 }
 
+// The operator of a number, where it applies to the values of a state.
+fn applying<'t>(task: &'t Task, operator: usize, values: &[u8]) -> Option<&'t Operator>
+    ensures { MatchOption result (Applies (model_of task.now) operator values.now → ⊥) (λ one. Applies (model_of task.now) operator values.now × (action one.now ≡ States.operator (model_of task.now) operator)) }
+{
+    let one = task.operators().get(operator)?;
+    if is_state(task, values)
+        && one
+            .preconditions()
+            .iter()
+            .all(|p| has_value(values, p.variable, p.value))
+    {
+        Some(one)
+    } else {
+        None
+    }
+}
+
 // Whether an operator applies to the values of a state.
 pub fn applies(task: &Task, operator: usize, values: &[u8]) -> bool
     ensures { Decides result (Applies (model_of task.now) operator values.now) }
 {
-    let Some(operator) = task.operators().get(operator) else {
-        return false;
-    };
-    is_state(task, values)
-        && operator
-            .preconditions()
-            .iter()
-            .all(|p| has_value(values, p.variable, p.value))
+    applying(task, operator, values).is_some()
 }
 
 // Whether the values are those of a goal state.
@@ -58,10 +70,10 @@ pub fn apply(task: &Task, operator: usize, values: &mut [u8]) -> bool
     ensures kept { result ≡ false → values.new ≡ values.old }
     ensures refused { result ≡ false → Applies (model_of task.now) operator values.old → ⊥ }
 {
-    if !applies(task, operator, values) {
+    let Some(one) = applying(task, operator, values) else {
         return false;
-    }
-    put(task.operators()[operator].effects(), values);
+    };
+    put(one.effects(), values);
     true
 }
 

@@ -1,10 +1,11 @@
-// A second task of the same model, and the smallest task.
-ghost use Rattle.std.specs.Prelude.{◌≡◌, [], ◌∷◌, IfOk};
+// A second task of the same model.
+ghost use Rattle.std.specs.Prelude.{◌≡◌, IfOk};
 ghost use Rattle.tasks.specs.View.{model_of};
 
 use super::Task;
-use std::alloc::{AllocError, Global};
+use std::alloc::AllocError;
 
+// By hand: a derive takes no type with a ghost field.
 impl Clone for Task {
     ghost is_clone = { λ t u. model_of u ≡ model_of t };
 
@@ -16,19 +17,6 @@ impl Clone for Task {
             sizes: self.sizes.clone()?,
             goal: self.goal.clone()?,
             operators: self.operators.clone()?,
-        })
-    }
-}
-
-impl Task {
-    // One variable of two values, no goal and no operator: the one task that is not read from a card.
-    pub fn smallest(heap: Global) -> Result<Task, AllocError>
-        ensures { IfOk result (λ t. model_of t ≡ record { sizes = 2 ∷ []; goal = []; operators = [] }) }
-    {
-        Ok(Task {
-            sizes: vec![in heap; 2]?,
-            goal: Vec::new(heap),
-            operators: Vec::new(heap),
         })
     }
 }

@@ -2,7 +2,7 @@
 use Rattle.std.proofs.Common.{rules, arith}
 use Rattle.std.proofs.lemmas.Iterator.{YieldsList-from_map, YieldsList-from_slice}
 use Rattle.projections.specs.Parts.{axis_sizes}
-use Rattle.projections.proofs.Chains.{product_fits, product_is}
+use Rattle.sas.proofs.Chains.{product_fits, product_is}
 use Rattle.projections.proofs.Digits.{axes_positive}
 use Rattle.projections.proofs.axes.Axes.product.Goals as goal
 
