@@ -55,17 +55,3 @@ states_fold s [] = ap (λ n. leb n 1048576) (sym (mul-one s))
 states_fold s (v ∷ xs) =
     let rest : ℕ = product (sizes (map plain_var xs)) in
     states_fold (min (s * v.size) 4294967295) xs ∙ sym (capped (s * v.size) rest) ∙ ap (λ k. leb k 1048576) (mul_assoc s v.size rest)
-
--- a card without a variable
-pub whole_none : (d : Draft) → true ≡ eqb (vec_len d.variables) 0 → whole (said d) ≡ Err NoVariable
-whole_none d e = cond-true _ _ _ (ap (λ n. eqb n 0) (sym (count plain_var d.variables)) ∙ sym e)
-
--- a card with one: q is what is found of the effects
-pub whole_some : (d : Draft) (zs : List DraftOperator) (q : Result (Unit {0}) CardFault) → false ≡ eqb (vec_len d.variables) 0 → zs ≡ vec_items d.operators → q ≡ effective (map placed zs) → whole (said d) ≡ (q >>= (λ _. cond (leb (product (sizes (said d).vars)) 1048576) (Ok (said d)) (Err TooManyStates)))
-whole_some d zs q e z f =
-    cond-false _ _ _ (ap (λ n. eqb n 0) (sym (count plain_var d.variables)) ∙ sym e)
-    ∙ ap (λ p. p >>= (λ _. cond (leb (product (sizes (said d).vars)) 1048576) (Ok (said d)) (Err TooManyStates))) (sym (f ∙ ap (λ os. effective (map placed os)) z))
-
--- and t, whether there are few states
-pub states_test : (d : Draft) (ws : List Variable) (t : Bool) → ws ≡ vec_items d.variables → t ≡ leb (product (sizes (map plain_var ws))) 1048576 → cond (leb (product (sizes (said d).vars)) 1048576) (Ok (said d)) (Err TooManyStates) ≡ cond t (Ok (said d)) (Err TooManyStates)
-states_test d ws t w e = ap (λ s. cond s (Ok (said d)) (Err TooManyStates)) (sym (e ∙ ap (λ vs. leb (product (sizes (map plain_var vs))) 1048576) w))
