@@ -1,19 +1,17 @@
 -- What is tested of a whole card: effects one operator after another, and the number of states up to the limit.
-use Rattle.std.proofs.Common.{◌≡◌, ℕ, zero, suc, ◌*◌, ◌<◌, ◌≤◌, min, Bool, true, false, cond, eqb, leb, List, [], ◌∷◌, map, Some, None, Ok, Err, vec_items, vec_len, Option, Result, refl, sym, ap, ◌∙◌, ⊎_elim, mul_assoc, mul-zero, mul-one, le-mul_of_pos_right, arith}
+use Rattle.std.proofs.Common.{◌≡◌, ℕ, zero, suc, ◌*◌, ◌<◌, ◌≤◌, min, Bool, true, false, cond, eqb, leb, List, [], ◌∷◌, map, Some, None, Ok, Err, vec_len, Option, Result, refl, sym, ap, ◌∙◌, ⊎_elim, mul_assoc, mul-zero, mul-one, le-mul_of_pos_right, arith}
 use Rattle.std.specs.List.{find, fold}
 use native.Mathlib.Nat.{min-eq_left, min-eq_right}
-use Rattle.std.proofs.lemmas.Bool.{cond-true, cond-false, cases_lt, lt-leb}
+use Rattle.std.proofs.lemmas.Bool.{cases_lt, lt-leb}
 use Rattle.fields.specs.Fields.{plain, line_of}
 use Rattle.sas.specs.Model.{product}
 use Rattle.cards.specs.declared.CardFault.{CardFault}
-use Rattle.cards.specs.declared.CardFault.TheVariants.{NoVariable, NoEffect, TooManyStates}
+use Rattle.cards.specs.declared.CardFault.TheVariants.{NoEffect}
 use Rattle.cards.specs.Content.{sizes}
-use Rattle.cards.specs.Reading.{effective, whole, ◌>>=◌}
-use Rattle.drafts.specs.View.{plain_var, placed, said}
+use Rattle.cards.specs.Reading.{effective}
+use Rattle.drafts.specs.View.{plain_var, placed}
 use Rattle.drafts.specs.declared.parts.Variable.{Variable}
 use Rattle.drafts.specs.declared.parts.DraftOperator.{DraftOperator}
-use Rattle.drafts.specs.declared.parts.Draft.{Draft}
-use Rattle.drafts.proofs.Lists.{count}
 
 -- whether an operator has no effect
 abbrev pub bare : DraftOperator → Bool
