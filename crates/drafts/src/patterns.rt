@@ -36,7 +36,7 @@ pub(crate) fn indices<'a>(
 pub(crate) fn distinct(line: usize, vs: &[u8]) -> Result<(), LineFault>
     ensures { result ≡ distinct_on line [] vs.now }
 {
-    // By a loop: a `find` over the indices left three goals open.
+    // By a loop: `find` through `enumerate` leaves both answers open, that for one found and that for none.
     for (i, v) in vs.iter().enumerate() {
         if vs[..i].contains(v) {
             let place = Place { line, field: i + 2 };
