@@ -1,19 +1,17 @@
 -- What is tested of a whole card: effects one operator after another, and the number of states up to the limit.
-use Rattle.std.proofs.Common.{◌≡◌, ℕ, zero, suc, ◌*◌, ◌<◌, ◌≤◌, min, Bool, true, false, cond, eqb, leb, List, [], ◌∷◌, map, Some, None, Ok, Err, vec_items, vec_len, Option, Result, refl, sym, ap, ◌∙◌, ⊎_elim, mul_assoc, mul-zero, mul-one, le-mul_of_pos_right, arith}
+use Rattle.std.proofs.Common.{◌≡◌, ℕ, zero, suc, ◌*◌, ◌<◌, ◌≤◌, min, Bool, true, false, cond, eqb, leb, List, [], ◌∷◌, map, Some, None, Ok, Err, vec_len, Option, Result, refl, sym, ap, ◌∙◌, ⊎_elim, mul_assoc, mul-zero, mul-one, le-mul_of_pos_right, arith}
 use Rattle.std.specs.List.{find, fold}
 use native.Mathlib.Nat.{min-eq_left, min-eq_right}
-use Rattle.std.proofs.lemmas.Bool.{cond-true, cond-false, cases_lt, lt-leb}
+use Rattle.std.proofs.lemmas.Bool.{cases_lt, lt-leb}
 use Rattle.fields.specs.Fields.{plain, line_of}
 use Rattle.sas.specs.Model.{product}
 use Rattle.cards.specs.declared.CardFault.{CardFault}
-use Rattle.cards.specs.declared.CardFault.TheVariants.{NoVariable, NoEffect, TooManyStates}
+use Rattle.cards.specs.declared.CardFault.TheVariants.{NoEffect}
 use Rattle.cards.specs.Content.{sizes}
-use Rattle.cards.specs.Reading.{effective, whole, ◌>>=◌}
-use Rattle.drafts.specs.View.{plain_var, placed, said}
+use Rattle.cards.specs.Reading.{effective}
+use Rattle.drafts.specs.View.{plain_var, placed}
 use Rattle.drafts.specs.declared.parts.Variable.{Variable}
 use Rattle.drafts.specs.declared.parts.DraftOperator.{DraftOperator}
-use Rattle.drafts.specs.declared.parts.Draft.{Draft}
-use Rattle.drafts.proofs.Lists.{count}
 
 -- whether an operator has no effect
 abbrev pub bare : DraftOperator → Bool
@@ -55,17 +53,3 @@ states_fold s [] = ap (λ n. leb n 1048576) (sym (mul-one s))
 states_fold s (v ∷ xs) =
     let rest : ℕ = product (sizes (map plain_var xs)) in
     states_fold (min (s * v.size) 4294967295) xs ∙ sym (capped (s * v.size) rest) ∙ ap (λ k. leb k 1048576) (mul_assoc s v.size rest)
-
--- a card without a variable
-pub whole_none : (d : Draft) → true ≡ eqb (vec_len d.variables) 0 → whole (said d) ≡ Err NoVariable
-whole_none d e = cond-true _ _ _ (ap (λ n. eqb n 0) (sym (count plain_var d.variables)) ∙ sym e)
-
--- a card with one: q is what is found of the effects
-pub whole_some : (d : Draft) (zs : List DraftOperator) (q : Result (Unit {0}) CardFault) → false ≡ eqb (vec_len d.variables) 0 → zs ≡ vec_items d.operators → q ≡ effective (map placed zs) → whole (said d) ≡ (q >>= (λ _. cond (leb (product (sizes (said d).vars)) 1048576) (Ok (said d)) (Err TooManyStates)))
-whole_some d zs q e z f =
-    cond-false _ _ _ (ap (λ n. eqb n 0) (sym (count plain_var d.variables)) ∙ sym e)
-    ∙ ap (λ p. p >>= (λ _. cond (leb (product (sizes (said d).vars)) 1048576) (Ok (said d)) (Err TooManyStates))) (sym (f ∙ ap (λ os. effective (map placed os)) z))
-
--- and t, whether there are few states
-pub states_test : (d : Draft) (ws : List Variable) (t : Bool) → ws ≡ vec_items d.variables → t ≡ leb (product (sizes (map plain_var ws))) 1048576 → cond (leb (product (sizes (said d).vars)) 1048576) (Ok (said d)) (Err TooManyStates) ≡ cond t (Ok (said d)) (Err TooManyStates)
-states_test d ws t w e = ap (λ s. cond s (Ok (said d)) (Err TooManyStates)) (sym (e ∙ ap (λ vs. leb (product (sizes (map plain_var vs))) 1048576) w))

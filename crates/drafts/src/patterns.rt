@@ -27,6 +27,7 @@ pub(crate) fn indices<'a>(
             field: vs.len() + 2,
         };
         let v = number_at(text, place, 0, n)?;
+        // A test bounds it: `try_from` would need an error that cannot come.
         vs.push(v as u8)?;
     }
     Ok(vs)
@@ -35,6 +36,7 @@ pub(crate) fn indices<'a>(
 pub(crate) fn distinct(line: usize, vs: &[u8]) -> Result<(), LineFault>
     ensures { result ≡ distinct_on line [] vs.now }
 {
+    // By a loop: `find` through `enumerate` leaves both answers open, that for one found and that for none.
     for (i, v) in vs.iter().enumerate() {
         if vs[..i].contains(v) {
             let place = Place { line, field: i + 2 };

@@ -6,6 +6,12 @@ ghost use Rattle.drafts.specs.View.{said};
 use crate::parts::Draft;
 use fields::LineFault;
 
+const MOST_VARIABLES: usize = 16;
+
+const MOST_OPERATORS: usize = 128;
+
+const MOST_PATTERNS: usize = 2;
+
 fn place_for(line: usize, ordered: bool, room: bool) -> Result<(), LineFault>
     ensures { result ≡ place_for line ordered room }
 {
@@ -19,32 +25,36 @@ fn place_for(line: usize, ordered: bool, room: bool) -> Result<(), LineFault>
 }
 
 impl<'a> Draft<'a> {
-    pub(crate) fn variable_place(&self, line: usize) -> Result<(), LineFault>
+    pub(crate) fn may_add_variable(&self, line: usize) -> Result<(), LineFault>
         ensures { result ≡ variable_place line (said self.now) }
     {
         place_for(
             line,
             self.operators.is_empty() && self.patterns.is_empty(),
-            self.variables.len() < 16,
+            self.variables.len() < MOST_VARIABLES,
         )
     }
 
-    pub(crate) fn operator_place(&self, line: usize) -> Result<(), LineFault>
+    pub(crate) fn may_add_operator(&self, line: usize) -> Result<(), LineFault>
         ensures { result ≡ operator_place line (said self.now) }
     {
-        place_for(line, self.patterns.is_empty(), self.operators.len() < 128)
+        place_for(
+            line,
+            self.patterns.is_empty(),
+            self.operators.len() < MOST_OPERATORS,
+        )
     }
 
     // For a precondition or an effect.
-    pub(crate) fn part_place(&self, line: usize) -> Result<(), LineFault>
+    pub(crate) fn may_add_part(&self, line: usize) -> Result<(), LineFault>
         ensures { result ≡ part_place line (said self.now) }
     {
         place_for(line, self.patterns.is_empty(), true)
     }
 
-    pub(crate) fn pattern_place(&self, line: usize) -> Result<(), LineFault>
+    pub(crate) fn may_add_pattern(&self, line: usize) -> Result<(), LineFault>
         ensures { result ≡ pattern_place line (said self.now) }
     {
-        place_for(line, true, self.patterns.len() < 2)
+        place_for(line, true, self.patterns.len() < MOST_PATTERNS)
     }
 }

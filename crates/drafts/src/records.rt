@@ -20,7 +20,7 @@ impl<'a> Draft<'a> {
     fn add_variable(&mut self, line: usize, texts: VariableTexts<'a>) -> Result<(), CardFault>
         ensures { GivesLine result (said self.new) (add_variable line (said self.old) texts.entry.name.now texts.entry.size.now texts.entry.start.now texts.entry.goal.now) }
     {
-        self.variable_place(line)?;
+        self.may_add_variable(line)?;
         let v = variable_of(line, texts)?;
         self.variables.push(v)?;
         Ok(())
@@ -35,7 +35,7 @@ impl<'a> Draft<'a> {
     ) -> Result<(), CardFault>
         ensures { GivesLine result (said self.new) (add_operator line (said self.old) name.now cost.now) }
     {
-        self.operator_place(line)?;
+        self.may_add_operator(line)?;
         let o = operator_of(heap, line, name, cost)?;
         self.operators.push(o)?;
         Ok(())
@@ -45,7 +45,8 @@ impl<'a> Draft<'a> {
     fn add_part<T: Part>(&mut self, line: usize, texts: ValueTexts<'a>) -> Result<(), CardFault>
         ensures { GivesLine result (said self.new) (add_part line (said self.old) (add_to T.Valued.of T.Valued.make T.Part.parts T.Part.with_parts line (said self.old).vars texts.entry.variable.now texts.entry.value.now)) }
     {
-        self.part_place(line)?;
+        self.may_add_part(line)?;
+        // Popped and pushed back: what is added reads the whole draft.
         let mut o = self.operators.pop().ok_or(LineFault::Order { line })?;
         T::add_to(&mut o, self, line, texts)?;
         self.operators.push(o)?;
@@ -60,7 +61,8 @@ impl<'a> Draft<'a> {
     ) -> Result<(), CardFault>
         ensures { GivesLine result (said self.new) (add_pattern line (said self.old) (left variables.entry)) }
     {
-        self.pattern_place(line)?;
+        self.may_add_pattern(line)?;
+        // The draft's ghost field bounds it: `try_from` would need an error that cannot come.
         let vs = indices(heap, line, self.variables.len() as u32, variables)?;
         distinct(line, vs.as_slice())?;
         self.patterns.push(vs)?;

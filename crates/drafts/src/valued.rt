@@ -11,6 +11,10 @@ use cards::CardFault;
 use fields::{FieldFault, LineFault, Place, ValueTexts};
 use sas::{Fact, Precondition};
 
+// Of each kind, for one operator.
+const MOST_PARTS: usize = 8;
+
+// Two types by a rule of `sas`; each impl hands on its own list of the operator, since one that lent the list would owe a clause on what is lent back.
 pub(crate) trait Valued: Copy {
     ghost of: { Self → ℕ };
 
@@ -112,6 +116,7 @@ fn valued_of<'a>(
     let size = variables[v as usize].size;
     let place = Place { line, field: 3 };
     let x = number_at(texts.value, place, 0, u32::from(size))?;
+    // A test bounds each: `try_from` would need an error that cannot come.
     Ok((v as u8, x as u8))
 }
 
@@ -129,7 +134,7 @@ fn add_valued<'a, T: Valued>(
 ) -> Result<(), CardFault>
     ensures { GivesLine result parts.new.items (add_valued T.Valued.of T.Valued.make line (said draft.now).vars texts.entry.variable.now texts.entry.value.now parts.old.items) }
 {
-    if parts.len() >= 8 {
+    if parts.len() >= MOST_PARTS {
         return Err(CardFault::InLine(LineFault::Many { line }));
     }
     let (v, x) = valued_of(draft, line, texts)?;

@@ -30,6 +30,7 @@ fn goal_at(text: &[u8], place: Place, size: u32) -> Result<Option<u8>, LineFault
 {
     match number_or_dash(text, place)? {
         Field::Dash { .. } => Ok(None),
+        // A test bounds it: `try_from` would need an error that cannot come.
         number => Ok(Some(number.value(0, size)? as u8)),
     }
 }

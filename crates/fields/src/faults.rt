@@ -7,17 +7,25 @@ use crate::place::Place;
 
 #[derive(Clone, Copy)]
 pub enum FieldFault {
+    // A name was to stand here.
     NoName(Place),
+    // A number in its bounds was to stand here, or a dash where one may.
     NoNumber(Place),
+    // The variable stands before on the line or among the operator's parts of this kind.
     Twice(Place),
 }
 
 #[derive(Clone, Copy)]
 pub enum LineFault {
+    // More than 200 bytes, or one that no card may have.
     Bytes { line: usize },
+    // No record's letter in front, or not as many fields as the record has.
     Shape { line: usize },
+    // A record before one that it must follow, or after one that it must precede.
     Order { line: usize },
+    // One record more than a card, or its operator, may have.
     Many { line: usize },
+    // A field that does not hold what is to stand there.
     InField(FieldFault),
 }
 

@@ -8,6 +8,7 @@ ghost use Rattle.fields.specs.Lines.{map_ok};
 use crate::faults::FieldFault;
 use crate::place::Place;
 
+// An enum of its own, as asked for: a name, a number or a dash, each handed on as its part of the text.
 #[derive(Clone, Copy)]
 pub enum Field<'a> {
     Name { text: &'a [u8], place: Place },
@@ -22,10 +23,9 @@ impl<'a> Field<'a> {
         ensures bounded { IfOk result (λ v. v < end) }
     {
         match *self {
-            Field::Number { digits, place } => match number(digits, end) {
-                Some(n) if low <= n && n < end => Ok(n),
-                _ => Err(FieldFault::NoNumber(place)),
-            },
+            Field::Number { digits, place } => number(digits, end)
+                .filter(|n| (low..end).contains(n))
+                .ok_or(FieldFault::NoNumber(place)),
             Field::Name { place, .. } | Field::Dash { place } => Err(FieldFault::NoNumber(place)),
         }
     }
@@ -92,11 +92,7 @@ fn is_name(text: &[u8]) -> bool
 fn digit(b: u8) -> Option<u8>
     ensures { result ≡ (if between 48 57 b then Some (b - 48) else None) }
 {
-    if b.is_ascii_digit() {
-        Some(b - b'0')
-    } else {
-        None
-    }
+    b.is_ascii_digit().then(|| b - b'0')
 }
 
 // Whether `text` is a decimal numeral, however long.

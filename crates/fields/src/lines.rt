@@ -32,6 +32,7 @@ pub enum Record<'a> {
 }
 
 // The record that stands on a line, or nothing.
+// The line goes along from here: each fault says where it stands, and is kept whole as it is handed up.
 pub fn cut_line<'a>(line: usize, text: &'a [u8]) -> Result<Option<Record<'a>>, LineFault>
     ensures { map_ok plain_some result ≡ cut_line line text.now }
 {
@@ -66,6 +67,7 @@ fn is_skipped(text: &[u8]) -> bool
     matches!(text, [] | [b'#', ..])
 }
 
+// By the letter, in a match over char literals, as asked for.
 fn by_letter<'a>(
     line: usize,
     letter: char,
