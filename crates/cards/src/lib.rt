@@ -35,7 +35,7 @@ impl CardFault {
         }
     }
 
-    // Line and field, both from 1, each 0 where it has none.
+    // Line and field, both counted from 1, each 0 where it has none.
     pub fn place(&self) -> Place
         ensures { result ≡ card_place self.now }
     {

@@ -8,7 +8,7 @@ ghost use Rattle.fields.specs.Lines.{map_ok};
 use crate::faults::FieldFault;
 use crate::place::Place;
 
-// An enum of its own, as asked for: a name, a number or a dash, each handed on as its part of the text.
+// A name, a number or a dash, each handed on as its part of the text. These three cases are a rule of the project.
 #[derive(Clone, Copy)]
 pub enum Field<'a> {
     Name { text: &'a [u8], place: Place },

@@ -67,7 +67,7 @@ fn is_skipped(text: &[u8]) -> bool
     matches!(text, [] | [b'#', ..])
 }
 
-// By the letter, in a match over char literals, as asked for.
+// A match over char literals, by a rule of the project.
 fn by_letter<'a>(
     line: usize,
     letter: char,
