@@ -47,18 +47,15 @@ impl StateEntries<'_> {
     }
 
     // Whether a rank obeys the laws.
+    #[tactic(auto, using(projections::proofs::Edges::edge_number))]
     fn obeys_at(&self, rank: usize) -> bool
         requires { rank < self.now.graph.now.states }
         ensures { Decides result (ObeysAt (task_of self.now.graph.now) (cost_of self.now.graph.now) self.now.entries.now rank) }
     {
         let entry = self.entries[rank];
-        if !is_held(entry) {
-            return false;
-        }
-        if self.graph.projection.is_goal(rank) && entry > 0 {
-            return false;
-        }
-        self.steps_obey(rank)
+        is_held(entry)
+            && (entry == 0 || !self.graph.projection.is_goal(rank))
+            && self.steps_obey(rank)
     }
 
     // Whether all ranks obey the laws.
