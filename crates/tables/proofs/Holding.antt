@@ -12,8 +12,9 @@ use Rattle.projections.proofs.Projecting.{operators_projected, sizes_projected}
 use Rattle.sas.specs.Ranks.{states}
 use Rattle.sas.specs.States.{operator}
 use Rattle.tasks.specs.View.{model_of}
+use Rattle.tables.specs.Backwards.{Fixed}
 use Rattle.tables.specs.Estimates.{rank_in}
-use Rattle.tables.specs.Weighted.{Fit}
+use Rattle.tables.specs.Weighted.{cost_of, task_of}
 use Rattle.tables.specs.declared.table.Table.{Table}
 use Rattle.tables.specs.declared.weighted.Weighted.{Weighted}
 use Rattle.tables.proofs.Runs.{few_states}
@@ -37,10 +38,6 @@ module _ (t : Table) where
   pub table_few : states (view_of t.projection) ≤ 1048576
   table_few = ∥∥₁_elim t.projection.shaped le_prop (few_states (view_of t.projection))
 
--- a graph is fit for any entries that are as many as its states
-pub graph_fit : (graph : Weighted) (long : ℕ) → graph.states ≤ long → Fit graph long
-graph_fit graph long room =
-    record {
-      count = graph.count;
-      fixed = record { shaped = held_shaped graph.projection; light = graph.light; size = graph.sized; long = room };
-    }
+-- what a graph fixes over any entries that are as many as its states
+pub graph_fixed : (graph : Weighted) (long : ℕ) → graph.states ≤ long → Fixed (task_of graph) (cost_of graph) graph.states long
+graph_fixed graph long room = record { shaped = held_shaped graph.projection; light = graph.light; size = graph.sized; long = room }

@@ -1,13 +1,15 @@
 -- A table that is built obeys the laws.
-use Rattle.std.proofs.Common.{◌≡◌, ℕ, ◌+◌, ◌<◌, ◌≤◌, Bool, eqb, List, [], ◌∷◌, length, get_or, Some, None, Decides, sym, refl, ap, ◌∙◌, subst, ⊎_elim, arith}
+use Rattle.std.proofs.Common.{◌≡◌, ℕ, ◌+◌, ◌<◌, ◌≤◌, Bool, eqb, List, [], ◌∷◌, length, get_or, Option, Some, None, Decides, sym, refl, ap, subst, ⊎_elim, arith}
 use Rattle.std.proofs.lemmas.List.{get_or_past}
 use Rattle.std.proofs.lemmas.Bool.{cond-true, cond-false, cases_lt, eq-eqb, ne_eqb}
 use Rattle.estimators.specs.Heights.{Falls, Held, most}
-use Rattle.projections.specs.Projection.{Edge, Remains, among, projected}
+use Rattle.projections.specs.Parts.{scales}
+use Rattle.projections.specs.Projection.{Edge, Remains, among, only, projected}
 use Rattle.projections.specs.Shapes.{Shaped}
+use Rattle.projections.specs.View.{places_of}
 use Rattle.projections.proofs.Edges.{edge_one, rank_onto, state_onto, step_into}
 use Rattle.projections.proofs.Held.{held_shaped}
-use Rattle.sas.specs.Model.{Model}
+use Rattle.sas.specs.Model.{Model, Rules}
 use Rattle.sas.specs.Ranks.{GoalRank, rank, states}
 use Rattle.sas.specs.Runs.{stay, step}
 use Rattle.sas.specs.States.{State, Step}
@@ -17,16 +19,15 @@ use Rattle.tables.specs.Built.{Built}
 use Rattle.tables.specs.Costs.{Reaches, Tells, mark, share}
 use Rattle.tables.specs.Entries.{Obeys, ObeysAt, entry, height_at}
 use Rattle.tables.specs.Input.{TableInput}
-use Rattle.tables.specs.Refusals.{Opens, WhyNotBuilt, WhyNotOpened, WhyNotWeighted}
+use Rattle.tables.specs.Opened.{Opened}
+use Rattle.tables.specs.Refusals.{Opens}
 use Rattle.tables.specs.Weighted.{cost_of, task_of}
-use Rattle.tables.specs.declared.refusal.TableRefusal.{TableRefusal}
-use Rattle.tables.specs.declared.refusal.TableRefusal.TheVariants.{Input, Room, Entry, Memory}
 use Rattle.tables.specs.declared.weighted.Weighted.{Weighted}
 
-pub height_mark : (e : ℕ) → e ≡ mark → height_at e ≡ None
+height_mark : (e : ℕ) → e ≡ mark → height_at e ≡ None
 height_mark e is = cond-true (eqb e mark) None (Some e) (eq-eqb e mark is)
 
-pub height_number : (e : ℕ) → (e ≡ mark → ⊥) → height_at e ≡ Some e
+height_number : (e : ℕ) → (e ≡ mark → ⊥) → height_at e ≡ Some e
 height_number e not = cond-false (eqb e mark) None (Some e) (ne_eqb e mark not)
 
 height_low : (e : ℕ) → e ≤ most → height_at e ≡ Some e
@@ -92,6 +93,10 @@ module _ (m : Model) (pattern shares : List ℕ) (graph : Weighted) (input : Tab
         obeys = subst (λ q. Obeys q (share shares) entries) view (subst (λ (xs : List ℕ). Obeys (task_of graph) (share xs) entries) same obeys);
       }
 
+  pub graph_opened : (entries : List ℕ) → Rules m → places_of graph.projection ≡ only (among pattern) (scales m.sizes) → graph.states ≤ length entries → Obeys (task_of graph) (cost_of graph) entries →
+      Opened m pattern (task_of graph) (places_of graph.projection) shares entries
+  graph_opened entries rules placed long obeys = record { rules = rules; view = view; placed = placed; opens = graph_opens entries long obeys }
+
   -- as what was built does
   pub built_opens : (before after : List ℕ) → graph.states ≤ length before → Built (task_of graph) (cost_of graph) before after →
       Built (projected (among pattern) m) (share shares) before after × Opens m pattern shares after
@@ -100,23 +105,13 @@ module _ (m : Model) (pattern shares : List ℕ) (graph : Weighted) (input : Tab
     graph_opens after (omega (arith, long, built.long)) (built_obeys (task_of graph) (held_shaped graph.projection) (cost_of graph) before after built),
   )
 
--- where there is no graph, nothing is built or opened
-pub why_not_built : (m : Model) (pattern shares : List ℕ) (entries places : ℕ) (e : TableRefusal) → WhyNotWeighted m pattern shares e → WhyNotBuilt m pattern shares entries places e
-why_not_built m pattern shares entries places Input h = h
-why_not_built m pattern shares entries places Room h = absurd h
-why_not_built m pattern shares entries places Entry h = absurd h
-why_not_built m pattern shares entries places Memory h = h
-
-pub why_not_opened : (m : Model) (pattern shares entries : List ℕ) (e : TableRefusal) → WhyNotWeighted m pattern shares e → WhyNotOpened m pattern shares entries e
-why_not_opened m pattern shares entries Input h = h
-why_not_opened m pattern shares entries Room h = absurd h
-why_not_opened m pattern shares entries Entry h = absurd h
-why_not_opened m pattern shares entries Memory h = h
-
 -- the operator has just the one step from a rank
-pub one_step : (p : Model) (each : ℕ → ℕ) (entries : List ℕ) (o k l : ℕ) → Edge p o k l → (b : Bool) → Decides b (Falls (each o) (height_at (entry entries k)) (height_at (entry entries l))) →
+pub one_step : (p : Model) (each : ℕ → ℕ) (entries : List ℕ) (o k l : ℕ) → Edge p o k l → (b : Bool) {w : ℕ} {x y : Option ℕ} → w ≡ each o → x ≡ height_at (entry entries k) → y ≡ height_at (entry entries l) → Decides b (Falls w x y) →
     Decides b ((n : ℕ) → Edge p o k n → Falls (each o) (height_at (entry entries k)) (height_at (entry entries n)))
-one_step p each entries o k l e b d = (
-  λ t n f. subst (λ x. Falls (each o) (height_at (entry entries k)) (height_at (entry entries x))) (edge_one p o k l n e f) (d.0 t),
-  λ all. d.1 (all l e),
+one_step p each entries o k l e b {w} {x} {y} cost from to d = (
+  λ t n f. subst (λ z. Falls (each o) (height_at (entry entries k)) (height_at (entry entries z))) (edge_one p o k l n e f) (same.0 t),
+  λ all. same.1 (all l e),
 )
+  where
+    same : Decides b (Falls (each o) (height_at (entry entries k)) (height_at (entry entries l)))
+    same = subst (λ z. Decides b (Falls (each o) (height_at (entry entries k)) z)) to (subst (λ z. Decides b (Falls (each o) z y)) from (subst (λ z. Decides b (Falls z x y)) cost d))

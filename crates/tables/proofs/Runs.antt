@@ -98,13 +98,13 @@ begun p each m long entries waits F wiped S =
 module _ (p : Model) (each : ℕ → ℕ) (m long : ℕ) (entries : List ℕ) (waits left : ℕ → Option Distance) (t : ℕ) (d : Distance)
     (F : Fixed p each m long) (G : Going p each m entries waits) (inside : length entries ≡ long)
     (here : waits t ≡ Some d) (least : (q : ℕ) (k : Distance) → waits q ≡ Some k → by_number d k ≡ true) (gone : left t ≡ None) (same : (q : ℕ) → (q ≡ t → ⊥) → left q ≡ waits q) where
-  pub taken_below : t < m
+  taken_below : t < m
   taken_below = (G.unset t d here).0
 
-  pub taken_small : d.0 ≤ most
+  taken_small : d.0 ≤ most
   taken_small = omega (arith, G.capped t d here, F.size, few_states p F.shaped)
 
-  pub taken_looking : Looking p each m (length (set entries t d.0)) t d.0
+  taken_looking : Looking p each m (length (set entries t d.0)) t d.0
   taken_looking =
       record {
         fixed = record { shaped = F.shaped; light = F.light; size = F.size; long = omega (arith, length-set entries t d.0, F.long, inside) };
@@ -135,14 +135,14 @@ module _ (p : Model) (each : ℕ → ℕ) (m long : ℕ) (entries : List ℕ) (w
         least = λ w k j e a. let z : 0 ≡ j = above_same a in let x = waits_is entries m waits w k e in omega (arith, leb-true d.0 x.0.0 (least w x.0 x.1), x.2);
       }
 
-  pub taken_unset : Unset (set entries t d.0) m left
+  taken_unset : Unset (set entries t d.0) m left
   taken_unset v k e = on (ℕ_discrete v t)
     where
       on : Dec (v ≡ t) → (v < m) × (get_or (set entries t d.0) v 0 ≡ mark)
       on (yes z) = absurd (none_some gone (ap left (sym z) ∙ e))
       on (no z) = let u = G.unset v k (sym (same v z) ∙ e) in (u.0, get_or-set_other entries t v d.0 0 z ∙ u.1)
 
-  pub taken_sofar : Sofar p each (set entries t d.0) m t d.0 (Left t 0) left
+  taken_sofar : Sofar p each (set entries t d.0) m t d.0 (Left t 0) left
   taken_sofar =
       record {
         inv = left_start p each (set entries t d.0) m t d.0 left (take_next (back p each) G.level (progress entries m waits) (progress (set entries t d.0) m left) t d.0 0 G.inv next put);
@@ -150,11 +150,11 @@ module _ (p : Model) (each : ℕ → ℕ) (m long : ℕ) (entries : List ℕ) (w
         unset = taken_unset;
       }
 
-  pub taken_marks : marks (set entries t d.0) m + 1 ≡ marks entries m
+  taken_marks : marks (set entries t d.0) m + 1 ≡ marks entries m
   taken_marks = marks_set entries m t d.0 taken_below low (G.unset t d here).1 not_mark
 
   -- and its steps are looked at
-  pub turned : (after : ℕ → Option Distance) (n : ℕ) → length p.operators ≤ n → Sofar p each (set entries t d.0) m t d.0 (Left t n) after → Capped (d.0 + 65535) left after → Going p each m (set entries t d.0) after
+  turned : (after : ℕ → Option Distance) (n : ℕ) → length p.operators ≤ n → Sofar p each (set entries t d.0) m t d.0 (Left t n) after → Capped (d.0 + 65535) left after → Going p each m (set entries t d.0) after
   turned after n over S C =
       record {
         level = d.0 + 0;
@@ -171,6 +171,17 @@ module _ (p : Model) (each : ℕ → ℕ) (m long : ℕ) (entries : List ℕ) (w
       tiny : (v : ℕ) → v < m → Dec (v ≡ t) → (get_or (set entries t d.0) v 0 ≡ mark) ⊎ (get_or (set entries t d.0) v 0 ≤ most)
       tiny v h (yes z) = inr (omega (arith, taken_small, ap (λ w. get_or (set entries t d.0) w 0) z ∙ get_or-set_same entries t d.0 0 low))
       tiny v h (no z) = subst (λ x. (x ≡ mark) ⊎ (x ≤ most)) (sym (get_or-set_other entries t v d.0 0 z)) (G.small v h)
+
+  -- what holds in the turn
+  pub record Turn : Type 0 where
+    pub below : t < m
+    pub looking : Looking p each m (length (set entries t d.0)) t d.0
+    pub sofar : Sofar p each (set entries t d.0) m t d.0 (Left t 0) left
+    pub fewer : marks (set entries t d.0) m + 1 ≡ marks entries m
+    pub going : (after : ℕ → Option Distance) (n : ℕ) → length p.operators ≤ n → Sofar p each (set entries t d.0) m t d.0 (Left t n) after → Capped (d.0 + 65535) left after → Going p each m (set entries t d.0) after
+
+  pub taken : Turn
+  taken = record { below = taken_below; looking = taken_looking; sofar = taken_sofar; fewer = taken_marks; going = turned }
 
 -- what an entry says of the runs from its rank to a goal
 abbrev pub TellsRank : Model → (ℕ → ℕ) → ℕ → ℕ → Type 0

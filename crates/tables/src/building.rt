@@ -2,7 +2,6 @@
 ghost use Rattle.std.specs.Prelude.{◌≡◌, ◌≤◌, length, IfErr, OnErr, OnOk};
 ghost use Rattle.lists.specs.Waits.{Cleared, Fresh};
 ghost use Rattle.projections.specs.Projection.{among, projected};
-ghost use Rattle.projections.specs.View.{view_of};
 ghost use Rattle.sas.specs.Ranks as Ranks;
 ghost use Rattle.tables.specs.Built.{Built};
 ghost use Rattle.tables.specs.Costs.{share};
@@ -17,20 +16,19 @@ use crate::refusal::TableRefusal;
 use crate::weighted::Weighted;
 use keys::Distance;
 use lists::WaitingList;
-use projections::Projection;
 use std::alloc::Global;
 use tasks::Task;
 
 // Puts the goal states at the distance 0 into a fresh list.
-fn seed<W: WaitingList<Key = Distance>>(list: &mut W, p: &Projection, m: usize)
+fn seed<W: WaitingList<Key = Distance>>(list: &mut W, graph: &Weighted)
     requires fresh { Fresh W.WaitingList.places W.WaitingList.waiting W.WaitingList.ordered (W.WaitingList.places list.old) list.old }
-    requires room { m ≤ W.WaitingList.places list.old }
+    requires room { graph.now.states ≤ W.WaitingList.places list.old }
     ensures ordered { W.WaitingList.ordered list.new }
     ensures places { W.WaitingList.places list.new ≡ W.WaitingList.places list.old }
-    ensures seeded { Seeded (view_of p.now) m (W.WaitingList.waiting list.new) }
+    ensures seeded { Seeded (task_of graph.now) graph.now.states (W.WaitingList.waiting list.new) }
 {
-    for rank in 0..m {
-        if p.is_goal(rank) {
+    for rank in 0..graph.states {
+        if graph.projection.is_goal(rank) {
             let _ = list.put(rank, Distance(0));
         }
     }
@@ -62,7 +60,7 @@ fn fill<W: WaitingList<Key = Distance>>(list: &mut W, entries: &mut [u64], graph
 {
     entries[..graph.states].fill(MARK);
     list.clear();
-    seed(list, &graph.projection, graph.states);
+    seed(list, graph);
     run(list, entries, graph);
 }
 

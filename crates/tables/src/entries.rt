@@ -1,10 +1,19 @@
 // The entries of a graph's states.
-ghost use Rattle.std.specs.Prelude.{◌≤◌, length};
+ghost use Rattle.std.specs.Prelude.{◌≡◌, ◌≤◌, length};
+ghost use Rattle.tables.specs.Entries.{height_at};
 
 use crate::weighted::Weighted;
 
 // The entry of a state from which no run leads to the goal.
-pub const MARK: u64 = 18446744073709551615;
+// No Option: the request gives entries this form, and the mark stands in a slice that is lent.
+pub const MARK: u64 = u64::MAX;
+
+// The height that an entry stands for.
+pub(crate) fn height_of(entry: u64) -> Option<u64>
+    ensures { result ≡ height_at entry }
+{
+    (entry != MARK).then_some(entry)
+}
 
 // A graph, and at least as many entries as it has states: the first ones are theirs, by rank.
 #[derive(Drop)]

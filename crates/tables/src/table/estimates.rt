@@ -3,7 +3,7 @@ ghost use Rattle.tables.specs.Lawful.{table_lawful};
 ghost use Rattle.tables.specs.Tables.{table_heights, table_shares, table_suits};
 
 use super::Table;
-use crate::entries::MARK;
+use crate::entries::height_of;
 use estimators::Estimator;
 use states::{same, state_count};
 use tasks::Task;
@@ -33,7 +33,6 @@ impl<'a> Estimator for Table<'a> {
         if rank >= state_count(&self.own) {
             return None;
         }
-        let entry = self.entries[self.projection.of(rank)];
-        if entry == MARK { None } else { Some(entry) }
+        height_of(self.entries[self.projection.of(rank)])
     }
 }

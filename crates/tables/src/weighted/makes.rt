@@ -45,9 +45,8 @@ impl<'a> Weighted<'a> {
     pub(crate) fn share(&self, operator: usize) -> u64
         ensures { result ≡ cost_of self.now operator }
     {
-        match self.shares.get(operator) {
-            Some(share) => u64::from(*share),
-            None => 0,
-        }
+        self.shares
+            .get(operator)
+            .map_or(0, |share| u64::from(*share))
     }
 }

@@ -2,7 +2,7 @@
 use Rattle.std.proofs.Common.{ap, arith}
 use Rattle.sas.specs.Ranks.{states}
 use Rattle.tasks.specs.View.{model_of}
-use Rattle.tables.proofs.Opens.{built_opens, why_not_built}
+use Rattle.tables.proofs.Opens.{built_opens}
 use Rattle.tables.proofs.building.build.Goals as goal
 
 pub returns : goal.returns

@@ -1,7 +1,7 @@
 -- The goal states wait and nothing is set: so the search begins.
 use Rattle.std.proofs.Common.{◌≡◌, ◌≤◌, ◌++◌, length, drop, ◌∙◌, arith}
 use Rattle.tables.specs.Weighted.{cost_of, task_of}
-use Rattle.tables.proofs.Holding.{graph_fit}
+use Rattle.tables.proofs.Holding.{graph_fixed}
 use Rattle.tables.proofs.Runs.{begun}
 use Rattle.tables.proofs.Wiped.{wiped_length, wiped_low, wiped_rest}
 use Rattle.tables.proofs.building.fill.Goals as goal
@@ -16,7 +16,7 @@ run-requires g c =
       goes = record {
         ordered = c.seed.ensures.ordered;
         room = omega (arith, c.requires.room, c.clear.ensures.sized, c.seed.ensures.places);
-        going = begun (task_of graph) (cost_of graph) graph.states _ _ _ (graph_fit graph _ long).fixed (wiped_low graph.states c.args.entries.now c.fill.new.self c.requires.long (c.fill.ensures.after (λ y e. e))) c.seed.ensures.seeded;
+        going = begun (task_of graph) (cost_of graph) graph.states _ _ _ (graph_fixed graph _ long) (wiped_low graph.states c.args.entries.now c.fill.new.self c.requires.long (c.fill.ensures.after (λ y e. e))) c.seed.ensures.seeded;
       };
     }
 

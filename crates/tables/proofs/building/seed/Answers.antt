@@ -1,8 +1,8 @@
 -- One rank more is put if it is a goal state's, and passed over else.
 use Rattle.std.proofs.Common.{◌≡◌, ◌+◌, sym, refl, ◌∙◌, subst, arith}
 use Rattle.std.proofs.lemmas.Bool.Decides.{not_from_Decides}
-use Rattle.projections.specs.View.{view_of}
 use Rattle.tables.specs.Going.{Seeded}
+use Rattle.tables.specs.Weighted.{task_of}
 use Rattle.tables.proofs.Offers.{put_accepted}
 use Rattle.tables.proofs.Runs.{seeded_none, seeded_no, seeded_yes}
 use Rattle.tables.proofs.building.seed.Goals as goal
@@ -13,7 +13,7 @@ loop-rank-init g c = (c.requires.fresh.still, refl, seeded_none _ _ c.requires.f
 
 pub loop-rank-preserved : goal.loop-rank-preserved
 loop-rank-preserved g c =
-    let p = view_of c.args.p.now in
+    let p = task_of c.args.graph.now in
     let W = g.W.WaitingList in
     let k = c.loop-rank.rank in
     elim c.if-is_goal.branch [
@@ -28,9 +28,9 @@ loop-rank-preserved g c =
 
 pub returns : goal.returns
 returns g c =
-    let e : c.loop-rank.rank ≡ c.args.m = omega (arith, c.loop-rank-test.false, c.loop-rank.auto.rank-end) in
+    let e : c.loop-rank.rank ≡ c.args.graph.now.states = omega (arith, c.loop-rank-test.false, c.loop-rank.auto.rank-end) in
     record {
       ordered = c.loop-rank.invariant.0;
       places = c.loop-rank.invariant.1;
-      seeded = subst (λ n. Seeded (view_of c.args.p.now) n (g.W.WaitingList.waiting c.loop-rank.list)) e c.loop-rank.invariant.2;
+      seeded = subst (λ n. Seeded (task_of c.args.graph.now) n (g.W.WaitingList.waiting c.loop-rank.list)) e c.loop-rank.invariant.2;
     }

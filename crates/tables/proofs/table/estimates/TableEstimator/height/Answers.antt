@@ -4,7 +4,6 @@ use Rattle.sas.specs.Ranks.{states}
 use Rattle.tasks.specs.View.{model_of}
 use Rattle.tables.specs.Entries.{entry, height_at}
 use Rattle.tables.specs.Lawful.{inside}
-use Rattle.tables.proofs.Opens.{height_mark, height_number}
 use Rattle.tables.proofs.Holding.{table_few, table_long, table_rank}
 use Rattle.tables.proofs.table.estimates.TableEstimator.height.Goals as goal
 
@@ -14,14 +13,8 @@ offset_bounds-self-of c = omega (arith, c.of.ensures.low, table_few c.args.self.
 pub bounds-self-of : goal.bounds-self-of
 bounds-self-of c = omega (arith, c.of.ensures.low, table_long c.args.self.now)
 
-pub returns-then-entry : goal.returns-then-entry
-returns-then-entry c =
+pub returns : goal.returns
+returns c =
     let t = c.args.self.now in
     let below : c.args.rank < states (model_of t.own) = omega (arith, c.if-rank-state_count.false, c.state_count.ensures.count) in
-    sym (inside t c.args.rank below ∙ ap (λ n. height_at (entry t.entries.now n)) (sym (c.of.ensures.value ∙ table_rank t c.args.rank)) ∙ height_mark _ c.if-entry.true)
-
-pub returns-else-entry : goal.returns-else-entry
-returns-else-entry c =
-    let t = c.args.self.now in
-    let below : c.args.rank < states (model_of t.own) = omega (arith, c.if-rank-state_count.false, c.state_count.ensures.count) in
-    sym (inside t c.args.rank below ∙ ap (λ n. height_at (entry t.entries.now n)) (sym (c.of.ensures.value ∙ table_rank t c.args.rank)) ∙ height_number _ c.if-entry.false)
+    c.height_of.ensures ∙ sym (inside t c.args.rank below ∙ ap (λ n. height_at (entry t.entries.now n)) (sym (c.of.ensures.value ∙ table_rank t c.args.rank)))
