@@ -1,5 +1,5 @@
 -- One turn of the loop that keeps the variables of a pattern.
-use Rattle.std.proofs.Common.{◌≡◌, ℕ, ◌+◌, ◌*◌, ◌<◌, ◌≤◌, Bool, true, false, List, [], ◌∷◌, ◌++◌, length, get_or, take, sym, refl, ap, ◌∙◌, subst, append-nil, arith}
+use Rattle.std.proofs.Common.{◌≡◌, ℕ, ◌+◌, ◌*◌, ◌<◌, ◌≤◌, Bool, true, false, List, [], ◌∷◌, ◌++◌, length, get_or, take, sym, ap, ◌∙◌, subst, append-nil, arith}
 use Rattle.std.specs.List.{AllByRecursion}
 use Rattle.std.proofs.ByRecursion.{All-get_or, All-take}
 use Rattle.std.proofs.lemmas.List.{map_push, take_all}
@@ -25,9 +25,6 @@ pub record KeptSoFar (keep : ℕ → Bool) (sizes : List ℕ) (axes : List Axis)
 module _ (keep : ℕ → Bool) (sizes : List ℕ) (sized : AllByRecursion (λ z. (2 ≤ z) × (z ≤ 16)) sizes) (few : product sizes ≤ 1048576) where
   pos : AllByRecursion (λ z. 0 < z) sizes
   pos = sizes_positive sizes sized
-
-  pub kept_none : KeptSoFar keep sizes [] 1 1 0
-  kept_none = record { sizes_are = refl; places_are = refl; scaled = refl; next = refl; place = refl }
 
   module _ (axes : List Axis) (c p i : ℕ) (h : KeptSoFar keep sizes axes c p i) where
     module _ (l : i < length sizes) where
