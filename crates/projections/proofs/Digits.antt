@@ -31,8 +31,8 @@ module _ (axes : List Axis) (v : ℕ) (d : Axis) (l : v < length axes) where
   pub size_at : (get_or axes v d).size ≡ get_or (axis_sizes axes) v 0
   size_at = sym (get_or-map (λ a. a.size) axes v d 0 l)
 
-  pub place_at : (get_or axes v d).place ≡ get_or (axis_places axes) v 0
-  place_at = sym (get_or-map (λ a. a.place) axes v d 0 l)
+  pub place_at : (get_or axes v d).whole_coefficient ≡ get_or (axis_places axes) v 0
+  place_at = sym (get_or-map (λ a. a.whole_coefficient) axes v d 0 l)
 
   pub coefficient_at : axis_coefficients axes ≡ scales (axis_sizes axes) → (get_or axes v d).coefficient ≡ coefficient (axis_sizes axes) v
   coefficient_at scaled = sym (get_or-map (λ a. a.coefficient) axes v d 0 l) ∙ ap (λ ks. get_or ks v 0) scaled ∙ scale_at (axis_sizes axes) v (omega (arith, l, length_sizes axes))
@@ -112,7 +112,7 @@ first (a ∷ axes) n l = a
 -- the digits of a whole rank, put at their places
 module _ (axes : List Axis) (scaled : axis_coefficients axes ≡ scales (axis_sizes axes)) (k : ℕ) where
   abbrev pub part : Axis → ℕ
-  part a = k / a.place % a.size * a.coefficient
+  part a = k / a.whole_coefficient % a.size * a.coefficient
 
   abbrev digit_at : ℕ → ℕ
   digit_at v = k / get_or (axis_places axes) v 0 % get_or (axis_sizes axes) v 0

@@ -164,15 +164,6 @@ product_only keep (z ∷ zs) h = on (keep 0) (product_only (later keep) zs h.1)
     on true e = mul-le-mul_left z e
     on false e = let one : 1 ≤ z = h.0 in omega (arith, e, mul-le-mul_right (product zs) one, one-mul (product zs))
 
--- equal tests keep the same
-pub only_same : {X : Type 0} (keep other : ℕ → Bool) (s : List X) → ((v : ℕ) → keep v ≡ other v) → only keep s ≡ only other s
-only_same keep other [] h = refl
-only_same {X} keep other (x ∷ s) h = ap (λ r. cond (keep 0) (x ∷ r) r) (only_same (later keep) (later other) s (λ v. h (suc v))) ∙ ap (λ b. cond b (x ∷ only (later other) s) (only (later other) s)) (h 0)
-
-pub place_same : (keep other : ℕ → Bool) (v : ℕ) → ((w : ℕ) → keep w ≡ other w) → place keep v ≡ place other v
-place_same keep other zero h = refl
-place_same keep other (suc v) h = ap (λ p. p + cond (keep v) 1 0) (place_same keep other v h) ∙ ap (λ b. place other v + cond b 1 0) (h v)
-
 only_next : {X : Type 0} (keep : ℕ → Bool) (s : List X) (i : ℕ) (d : X) → i < length s → only keep (take (suc i) s) ≡ only keep (take i s) ++ cond (keep i) (get_or s i d ∷ []) []
 only_next keep [] i d l = absurd (omega arith)
 only_next keep (x ∷ s) zero d l = refl

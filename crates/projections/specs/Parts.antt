@@ -19,7 +19,7 @@ abbrev pub axis_coefficients : List Axis → List ℕ
 axis_coefficients axes = map (λ a. a.coefficient) axes
 
 abbrev pub axis_places : List Axis → List ℕ
-axis_places axes = map (λ a. a.place) axes
+axis_places axes = map (λ a. a.whole_coefficient) axes
 
 abbrev pub model : List Axis → Vec Fact Global → Vec Move Global → Model
 model axes goal moves = record { sizes = axis_sizes axes; goal = vec_items goal; operators = map action (vec_items moves) }

@@ -5,9 +5,9 @@ ghost use Rattle.std.specs.Prelude.{◌*◌, ◌<◌, ◌≤◌};
 pub(crate) struct Axis {
     pub(crate) size: u8,
     pub(crate) coefficient: usize,
-    pub(crate) place: usize,
+    pub(crate) whole_coefficient: usize,
     ghost sized: { (2 ≤ size) × (size ≤ 16) },
     ghost scaled: { 0 < coefficient },
-    ghost placed: { 0 < place },
+    ghost placed: { 0 < whole_coefficient },
     ghost few: { coefficient * size ≤ 1048576 },
 }

@@ -3,7 +3,7 @@
 
 mod axes;
 mod axis;
-pub mod moves;
+mod moves;
 mod pattern;
 pub mod projection;
 

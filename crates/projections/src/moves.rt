@@ -7,7 +7,7 @@ use sas::Fact;
 
 // What is asked and what is set, and the variables that are set without being asked for, at their value 0.
 #[derive(Drop)]
-pub struct Move {
+pub(crate) struct Move {
     pub(crate) asked: Vec<Fact>,
     pub(crate) effects: Vec<Fact>,
     pub(crate) free: Vec<Fact>,

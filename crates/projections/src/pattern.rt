@@ -2,7 +2,7 @@
 ghost use Rattle.std.specs.Prelude.{◌≡◌, ◌≤◌};
 ghost use Rattle.projections.specs.Projection.{among, place};
 
-// Whether a pattern has a variable.
+// Whether a pattern has a variable. By `any`: variables are counted in usize, which `contains` would ask to be narrowed.
 pub(crate) fn has(pattern: &[u8], variable: usize) -> bool
     ensures { result ≡ among pattern.now variable }
 {

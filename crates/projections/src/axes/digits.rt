@@ -53,7 +53,7 @@ impl Axes {
         now_at
     }
 
-    // How many values some variables have together.
+    // How many values some variables have together; they stand in facts, as `free` of a `Move` keeps them for `written`.
     pub(crate) fn ways_of(&self, variables: &[Fact]) -> usize
         requires inside { All (λ f. f.variable < length self.now.list.items) variables.now }
         requires few { length variables.now ≤ 8 }
@@ -90,7 +90,7 @@ impl Axes {
     {
         self.list
             .iter()
-            .map(|a| rank / a.place % usize::from(a.size) * a.coefficient)
+            .map(|a| rank / a.whole_coefficient % usize::from(a.size) * a.coefficient)
             .sum()
     }
 }

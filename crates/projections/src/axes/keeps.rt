@@ -20,17 +20,17 @@ impl Axes {
     {
         let mut list = Vec::new(heap);
         let mut coefficient: usize = 1;
-        let mut place: usize = 1;
+        let mut whole_coefficient: usize = 1;
         for (variable, &size) in sizes.iter().enumerate() {
             if has(pattern, variable) {
                 list.push(Axis {
                     size,
                     coefficient,
-                    place,
+                    whole_coefficient,
                 })?;
                 coefficient *= usize::from(size);
             }
-            place *= usize::from(size);
+            whole_coefficient *= usize::from(size);
         }
         Ok(Axes { list })
     }

@@ -32,7 +32,7 @@ fn kept_facts(heap: Global, facts: &[Fact], pattern: &[u8]) -> Result<Vec<Fact>,
         .collect(heap)
 }
 
-// Preconditions as facts.
+// Preconditions as facts: `sas` has a type for each, and what is asked is written into ranks as facts.
 fn facts_of(heap: Global, preconditions: &[Precondition]) -> Result<Vec<Fact>, AllocError>
     ensures { IfOk result (λ v. v.items ≡ map as_fact preconditions.now) }
 {

@@ -1,13 +1,15 @@
 // Steps and goals of a projected task, by rank, and the way back over an operator.
 ghost use Rattle.std.specs.Prelude.{◌≡◌, ℕ, ◌<◌, ◌≤◌, Decides, MatchOption};
 ghost use Rattle.sas.specs.Ranks.{GoalRank, states};
+ghost use Rattle.sas.specs.States as States;
 ghost use Rattle.projections.specs.Origins.{Origin, free, offset, ways};
-ghost use Rattle.projections.specs.Parts.{folded};
+ghost use Rattle.projections.specs.Parts.{action, folded};
 ghost use Rattle.projections.specs.Projection.{Edge, Remains};
 ghost use Rattle.projections.specs.Shapes.{Shaped};
 ghost use Rattle.projections.specs.View.{places_of, view_of};
 
 use super::Projection;
+use crate::moves::Move;
 
 impl Projection {
     // The number of projected states.
@@ -35,14 +37,19 @@ impl Projection {
         rank < self.states() && self.axes.all_stand(&self.goal, rank)
     }
 
+    // What is left of an operator that remains, where a number is a rank.
+    fn remaining(&self, operator: usize, rank: usize) -> Option<&Move>
+        ensures { MatchOption result (Remains (view_of self.now) operator → rank < states (view_of self.now) → ⊥) (λ x. (States.operator (view_of self.now) operator ≡ action x.now) × Remains (view_of self.now) operator × (rank < states (view_of self.now))) }
+    {
+        let one = self.moves.get(operator)?;
+        (rank < self.states() && !one.effects.is_empty()).then_some(one)
+    }
+
     // The rank to which an operator leads.
     pub fn successor(&self, operator: usize, rank: usize) -> Option<usize>
         ensures { MatchOption result ((l : ℕ) → Edge (view_of self.now) operator rank l → ⊥) (λ l. Edge (view_of self.now) operator rank l × (l < states (view_of self.now))) }
     {
-        let one = self.moves.get(operator)?;
-        if rank >= self.states() || one.effects.is_empty() {
-            return None;
-        }
+        let one = self.remaining(operator, rank)?;
         if !self.axes.all_stand(&one.asked, rank) {
             return None;
         }
@@ -53,10 +60,7 @@ impl Projection {
     pub fn origin(&self, operator: usize, rank: usize) -> Option<usize>
         ensures { MatchOption result ((k : ℕ) → Edge (view_of self.now) operator k rank → ⊥) (Origin (view_of self.now) operator rank) }
     {
-        let one = self.moves.get(operator)?;
-        if rank >= self.states() || one.effects.is_empty() {
-            return None;
-        }
+        let one = self.remaining(operator, rank)?;
         let asked = self.axes.written(&one.asked, rank);
         let leads_back = self.axes.written(&one.effects, asked) == rank;
         if !leads_back {
@@ -69,20 +73,18 @@ impl Projection {
     pub fn ways(&self, operator: usize) -> usize
         ensures { result ≡ ways (view_of self.now).sizes (free (view_of self.now) operator) }
     {
-        let Some(one) = self.moves.get(operator) else {
-            return 1;
-        };
-        self.axes.ways_of(&one.free)
+        self.moves
+            .get(operator)
+            .map_or(1, |one| self.axes.ways_of(&one.free))
     }
 
     // What the n-th of these ways adds to the rank that `origin` gives.
     pub fn offset(&self, operator: usize, n: usize) -> usize
         ensures { result ≡ offset (view_of self.now).sizes (free (view_of self.now) operator) n }
     {
-        let Some(one) = self.moves.get(operator) else {
-            return 0;
-        };
-        self.axes.offset_of(&one.free, n)
+        self.moves
+            .get(operator)
+            .map_or(0, |one| self.axes.offset_of(&one.free, n))
     }
 
     // The rank of what is left of the state of a rank of the whole task.
