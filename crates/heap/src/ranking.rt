@@ -13,6 +13,7 @@ fn counted(heap: Global, bound: usize) -> Result<Vec<usize>, AllocError>
 }
 
 // `order` has each rank below its length once, and `spots` says where.
+// Two vectors beside the keys: each is the other's inverse, so that a put finds its place without search or memory.
 #[derive(Drop)]
 pub(crate) struct Ranking {
     order: Vec<usize>,

@@ -96,10 +96,7 @@ impl<K: Key> WaitingList for Heap<K> {
     }
 
     fn put(&mut self, rank: usize, key: K) -> Result<(), PutRefusal> {
-        if rank >= self.capacity() {
-            return Err(PutRefusal::NoPlace);
-        }
-        match self.keys[rank] {
+        match *self.keys.get(rank).ok_or(PutRefusal::NoPlace)? {
             Some(old) if old.at_most(key) => {}
             Some(_) => self.lower(rank, key),
             None => self.add(rank, key),

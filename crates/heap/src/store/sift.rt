@@ -1,6 +1,6 @@
 // How a rank moves up or down the heap until it stands in order.
 ghost use Rattle.std.specs.Prelude.{◌≡◌, ℕ, ◌+◌, ◌*◌, ◌<◌, slice_index};
-ghost use Rattle.heap.specs.Rows.{before, up, Under, UpTo, DownTo};
+ghost use Rattle.heap.specs.Rows.{up, Under, UpTo, DownTo};
 ghost use Rattle.heap.specs.Means.{heap_before, heap_ordered};
 
 use crate::store::Heap;
