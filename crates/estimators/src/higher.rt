@@ -7,7 +7,7 @@ use crate::estimator::Estimator;
 use tasks::Task;
 
 // For the tasks that both are for: the greater share and the greater height; dead in either is dead.
-// A struct beside SumOf: one generic over how it joins would hold a marker, which each caller would have to write.
+// A struct beside SumOf, by a rule of the project: either layer is a struct of its own. What they share is `layered`.
 #[derive(Drop)]
 pub struct HigherOf<X, Y> {
     pub first: X,

@@ -6,7 +6,7 @@ use crate::estimator::{Estimator, K};
 use tasks::Task;
 
 // For the tasks that both are for: the sum of the shares and of the heights, each held at K; dead in either is dead.
-// A struct beside HigherOf: one generic over how it joins would hold a marker, which each caller would have to write.
+// A struct beside HigherOf, by a rule of the project: either layer is a struct of its own. What they share is `layered`.
 #[derive(Drop)]
 pub struct SumOf<X, Y> {
     pub first: X,

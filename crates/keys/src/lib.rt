@@ -14,7 +14,6 @@ pub trait Key: Copy {
 
     ghost total: { (x y : Self) → (leq x y ≡ true) ⊎ (leq y x ≡ true) };
 
-    // Equal values of an `Ord` need not be the same, so that each kind of key has an impl of its own.
     ghost antisym: { (x y : Self) → leq x y ≡ true → leq y x ≡ true → x ≡ y };
 
     ghost trans: { (x y z : Self) → leq x y ≡ true → leq y z ≡ true → leq x z ≡ true };
@@ -23,6 +22,7 @@ pub trait Key: Copy {
 #[derive(Clone, Copy, PartialEq, Eq, PartialOrd, Ord)]
 pub struct Distance(pub u64);
 
+// An impl for each kind of key: equal values of an `Ord` need not be the same, and the law `antisym` asks that they are.
 impl Key for Distance {
     ghost leq = { by_number };
 

@@ -1,5 +1,5 @@
 // What a list gives over a run of puts and takes.
-ghost use Rattle.std.specs.Prelude.{◌≤◌};
+ghost use Rattle.std.specs.Prelude.{◌+◌, ◌≤◌};
 
 use crate::numbers::{Numbered, Numbers};
 use drains::drain;
@@ -22,43 +22,54 @@ fn put_at<K: Numbered, W: WaitingList<Key = K>>(w: &mut W, rank: u64, n: u64) ->
     w.put(rank as usize, K::numbered(n)).is_ok()
 }
 
-// Puts and takes in turn, and a clear in the middle. No two ranks have equal keys, and a few ranks are past the capacity.
+// Puts and takes in turn. No two ranks have equal keys, and a few ranks are past the capacity.
+fn take_turns<K: Numbered, W: WaitingList<Key = K>>(
+    w: &mut W,
+    numbers: &mut Numbers,
+    gave: &mut Gave<K>,
+) -> Result<(), AllocError>
+    requires { (gave.old.empty ≤ 200) × (gave.old.refused ≤ 200) }
+    ensures { (gave.new.empty ≤ gave.old.empty + 200) × (gave.new.refused ≤ gave.old.refused + 200) }
+{
+    for _ in 0..200u64 {
+        if numbers.below(3) < 2 {
+            let rank = numbers.below(27);
+            let n = numbers.below(50) * 32 + rank;
+            if !put_at(w, rank, n) {
+                gave.refused += 1;
+            }
+        } else {
+            match w.take() {
+                Some(pair) => gave.taken.push(pair)?,
+                None => gave.empty += 1,
+            }
+        }
+    }
+    Ok(())
+}
+
+// Many turns, a clear, and as many again.
 pub(crate) fn mixed<K: Numbered, W: WaitingList<Key = K>>(
     heap: Global,
     w: &mut W,
 ) -> Result<Gave<K>, AllocError> {
     let mut numbers = Numbers::new(1);
-    let mut taken = Vec::new(heap);
-    let mut empty = 0;
-    let mut refused = 0;
-    for turn in 0..400u64 {
-        if turn == 200 {
-            w.clear();
-        }
-        if numbers.below(3) < 2 {
-            let rank = numbers.below(27);
-            let n = numbers.below(50) * 32 + rank;
-            if !put_at(w, rank, n) {
-                refused += 1;
-            }
-        } else {
-            match w.take() {
-                Some(pair) => taken.push(pair)?,
-                None => empty += 1,
-            }
-        }
-    }
-    Ok(Gave {
-        taken,
-        empty,
-        refused,
-    })
+    let mut gave = Gave {
+        taken: Vec::new(heap),
+        empty: 0,
+        refused: 0,
+    };
+    take_turns(w, &mut numbers, &mut gave)?;
+    w.clear();
+    take_turns(w, &mut numbers, &mut gave)?;
+    Ok(gave)
 }
 
 // Forty puts under six keys, so that many ranks have equal keys. Says how many were refused.
 fn put_tied<K: Numbered, W: WaitingList<Key = K>>(w: &mut W, numbers: &mut Numbers) -> u64
     ensures { result ≤ 40 }
 {
+    // By a loop: a closure that counts would also change the list and the numbers.
     let mut refused = 0;
     for _ in 0..40u64 {
         let rank = numbers.below(27);

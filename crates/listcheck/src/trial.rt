@@ -1,5 +1,5 @@
 // Both lists on the same runs, and what came of it.
-use crate::compare::{same_keys, same_ranks};
+use crate::compare::same_keys;
 use crate::numbers::Numbered;
 use crate::run::{CAPACITY, Gave, mixed, tied};
 use heap::Heap;
@@ -10,8 +10,8 @@ use scan::Scan;
 use std::alloc::{AllocError, Global};
 
 // Whether the log has just what was taken.
-fn logged<W: WaitingList>(w: &Noting<W>, gave: &Gave<W::Key>) -> bool {
-    w.complete() && same_keys(w.noted(), &gave.taken) && same_ranks(w.noted(), &gave.taken)
+fn logged<K: Key + PartialEq, W: WaitingList<Key = K>>(w: &Noting<W>, gave: &Gave<K>) -> bool {
+    w.complete() && w.noted() == gave.taken.as_slice()
 }
 
 // One line on what both lists gave.
@@ -31,7 +31,10 @@ fn line<K: Key>(
     )
 }
 
-pub(crate) fn report<K: Numbered>(heap: Global, name: &str) -> Result<String, AllocError> {
+pub(crate) fn report<K: Numbered + PartialEq>(
+    heap: Global,
+    name: &str,
+) -> Result<String, AllocError> {
     let mut quick = Noting::new(heap, Heap::<K>::new(heap, CAPACITY)?);
     let mut plain = Noting::new(heap, Scan::<K>::new(heap, CAPACITY)?);
     let a = mixed(heap, &mut quick)?;
