@@ -32,12 +32,16 @@ impl<K: Key> Scan<K> {
     fn least(&self) -> Option<(usize, K)>
         ensures { Least K.Key.leq self.now.keys.items result }
     {
-        let waits = self
-            .keys
-            .iter()
-            .enumerate()
-            .filter_map(|(rank, key)| key.map(|key| (rank, key)));
-        waits.reduce(|best, next| if best.1.at_most(next.1) { best } else { next })
+        let mut best: Option<(usize, K)> = None;
+        for (rank, key) in self.keys.iter().enumerate() {
+            if let Some(key) = *key {
+                best = match best {
+                    Some((at, old)) if old.at_most(key) => Some((at, old)),
+                    _ => Some((rank, key)),
+                };
+            }
+        }
+        best
     }
 }
 
