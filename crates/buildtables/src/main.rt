@@ -52,6 +52,7 @@ fn tell_table(rt: &HostRuntime, task: &Task, pattern: &[u8], shares: &[u32]) -> 
             println!(rt; "{count}\t{reached}\t{sum}")?;
         }
         Err(refusal) => {
+            // Want of memory has no number and is printed as 0.
             let number = refusal.number().unwrap_or(0);
             println!(rt; "refused\t{number}")?;
         }

@@ -1,7 +1,7 @@
 // Builds and opens tables of the sample card, and prints their entries, heights and each refusal.
 #![tactic(auto)]
 
-use anyhow::anyhow;
+use anyhow::{Context, anyhow};
 use estimators::{Estimator, HigherOf, SumOf};
 use heap::Heap;
 use keys::Distance;
@@ -19,9 +19,7 @@ const SHARES: [u32; 5] = [3, 4, 2, 1, 5];
 const STUCK: &[u8] = b"V\ta\t3\t0\t1\nO\tup\t7\nR\t0\t0\nE\t0\t1\nT\t0\n";
 
 fn tell(rt: &HostRuntime, case: &str, refusal: TableRefusal) -> anyhow::Result<()> {
-    let Some(number) = refusal.number() else {
-        return Err(anyhow!("no memory"));
-    };
+    let number = refusal.number().context("no memory")?;
     println!(rt; "{case}: refused {number}")?;
     Ok(())
 }
@@ -120,10 +118,9 @@ fn opened<'a>(
     pattern: &[u8],
     entries: &'a [u64],
 ) -> anyhow::Result<Table<'a>> {
-    match Table::open(rt.alloc(), task, pattern, &SHARES, entries) {
-        Ok(table) => Ok(table),
-        Err(_) => Err(anyhow!("the table does not open")),
-    }
+    Table::open(rt.alloc(), task, pattern, &SHARES, entries).map_err(|_| anyhow!(
+        "the table does not open"
+    ))
 }
 
 fn tell_piles(rt: &HostRuntime, task: &Task) -> anyhow::Result<()> {
@@ -149,9 +146,8 @@ fn tell_piles(rt: &HostRuntime, task: &Task) -> anyhow::Result<()> {
 
 fn read<'a>(rt: &HostRuntime, text: &'a [u8]) -> anyhow::Result<Card<'a>> {
     let mut card = Card::built_in(rt.alloc())?;
-    if card.read(rt.alloc(), text).is_err() {
-        return Err(anyhow!("the card is not read"));
-    }
+    card.read(rt.alloc(), text)
+        .map_err(|_| anyhow!("the card is not read"))?;
     Ok(card)
 }
 
