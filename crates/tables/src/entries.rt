@@ -5,7 +5,7 @@ ghost use Rattle.tables.specs.Entries.{height_at};
 use crate::weighted::Weighted;
 
 // The entry of a state from which no run leads to the goal.
-// No Option: the request gives entries this form, and the mark stands in a slice that is lent.
+// No Option: the mark stands in entries that are lent, numbers by a rule of the project.
 pub const MARK: u64 = u64::MAX;
 
 // The height that an entry stands for.
