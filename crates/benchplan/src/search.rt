@@ -3,7 +3,8 @@ use states::{is_goal_rank, state_count, successor};
 use std::alloc::{AllocError, Global};
 use tasks::Task;
 
-// The last step of a way: its operator, and the state that it leads from.
+// The last step of a way: its operator, and the state that it leads from, by its rank: the number of a state, and no place of
+// an arena.
 #[derive(Clone, Copy)]
 struct Last {
     operator: usize,

@@ -2,7 +2,7 @@
 // projected states there are, from how many of them the goal is reached, and the sum of their entries.
 #![tactic(auto)]
 
-use anyhow::anyhow;
+use anyhow::ensure;
 use heap::Heap;
 use keys::Distance;
 use lists::WaitingList;
@@ -65,9 +65,7 @@ fn run(rt: &HostRuntime) -> anyhow::Result<()> {
     let mut bytes = Vec::new(heap);
     rt.stdin().take(MOST_BYTES).read_to_end(&mut bytes)?;
     let mut card = Card::built_in(heap)?;
-    if card.read(heap, bytes.as_slice()).is_err() {
-        return Err(anyhow!("the card is not read"));
-    }
+    ensure!(card.read(heap, &bytes).is_ok(), "the card is not read");
     let costs = card.costs(heap)?;
     let shares: Vec<u32> = costs.iter().map(|cost| u32::from(*cost)).collect(heap)?;
     for pattern in card.patterns() {

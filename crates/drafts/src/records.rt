@@ -69,6 +69,7 @@ impl<'a> Draft<'a> {
         Ok(())
     }
 
+    // By cases: each record has another shape.
     fn add_record(&mut self, heap: Global, line: usize, record: Record<'a>) -> Result<(), CardFault>
         ensures { GivesLine result (said self.new) (add_record line (said self.old) (plain_record «record».entry)) }
     {

@@ -105,7 +105,8 @@ fn is_numeral(text: &[u8]) -> bool
     text.iter().all(|b| b.is_ascii_digit())
 }
 
-// The number that `text` writes, if it is a decimal numeral of at most `limit`.
+// The number that `text` writes, if it is a decimal numeral of at most `limit`. By a loop: the library's parsers take a text
+// and a sign, and tell no limit.
 fn number(text: &[u8], limit: u32) -> Option<u32>
     ensures { result ≡ within limit (numeral text.now) }
 {
@@ -119,5 +120,6 @@ fn number(text: &[u8], limit: u32) -> Option<u32>
             return None;
         }
     }
+    // The limit bounds it: `try_from` would need an error that cannot come.
     Some(n as u32)
 }

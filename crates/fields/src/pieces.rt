@@ -4,6 +4,7 @@ ghost use Rattle.std.specs.Iterator.{YieldsFirstRef, item_count};
 ghost use Rattle.fields.specs.Text.{pieces};
 ghost use Rattle.fields.specs.Cursor.{left};
 
+// Not the library's `split`: that holds a closure and is not copied, and a record is copied with the pieces that are left.
 #[derive(Clone, Copy)]
 pub struct Pieces<'a> {
     rest: Option<&'a [u8]>,

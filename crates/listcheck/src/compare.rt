@@ -4,6 +4,7 @@ ghost use Rattle.listcheck.specs.Same.{SameKeys};
 
 use keys::Key;
 
+// By the order, not by `==`: that the keys are the same is promised by the law of keys, which a bound `PartialEq` is not.
 fn same_key<K: Key>(x: K, y: K) -> bool
     ensures { result ≡ true → x ≡ y }
 {

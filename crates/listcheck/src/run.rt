@@ -22,7 +22,8 @@ fn put_at<K: Numbered, W: WaitingList<Key = K>>(w: &mut W, rank: u64, n: u64) ->
     w.put(rank as usize, K::numbered(n)).is_ok()
 }
 
-// Puts and takes in turn. No two ranks have equal keys, and a few ranks are past the capacity.
+// Puts and takes in turn. No two ranks have equal keys, and a few ranks are past the capacity. By a loop: what is counted are
+// events, and each turn changes the list and the numbers too.
 fn take_turns<K: Numbered, W: WaitingList<Key = K>>(
     w: &mut W,
     numbers: &mut Numbers,

@@ -9,7 +9,7 @@ pub(crate) fn has(pattern: &[u8], variable: usize) -> bool
     pattern.iter().any(|v| usize::from(*v) == variable)
 }
 
-// How many variables before this one a pattern has.
+// How many variables before this one a pattern has; no more than its number, so that the cast cuts nothing.
 pub(crate) fn new_number(pattern: &[u8], variable: u8) -> u8
     ensures value { result ≡ place (among pattern.now) variable }
     ensures low { result ≤ variable }

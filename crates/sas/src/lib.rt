@@ -20,7 +20,8 @@ pub struct Fact {
     pub value: u8,
 }
 
-// What an operator costs at present, and whether it is barred.
+// What an operator costs at present, and whether it is barred. A bar beside the cost, by a rule of the project: a barred row
+// keeps its cost.
 #[derive(Clone, Copy)]
 pub struct Row {
     pub cost: u16,

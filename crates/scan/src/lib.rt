@@ -28,7 +28,7 @@ impl<K: Key> Scan<K> {
         })
     }
 
-    // The least key and its rank.
+    // The least key and its rank. By a loop: its proof is a hundred lines shorter than that of `reduce`.
     fn least(&self) -> Option<(usize, K)>
         ensures { Least K.Key.leq self.now.keys.items result }
     {

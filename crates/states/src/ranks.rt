@@ -77,6 +77,7 @@ fn unpack(task: &Task, rank: usize, values: &mut [u8])
     // By index: after a zip with `iter_mut` a proof knows the length of what was written, and no element.
     for (i, size) in sizes.iter().enumerate() {
         let size = usize::from(*size);
+        // A remainder bounds it: `try_from` would need an error that cannot come.
         values[i] = (rest % size) as u8;
         rest /= size;
     }

@@ -24,6 +24,7 @@ fn applying<'t>(task: &'t Task, operator: usize, values: &[u8]) -> Option<&'t Op
     ensures { MatchOption result (Applies (model_of task.now) operator values.now → ⊥) (λ one. Applies (model_of task.now) operator values.now × (action one.now ≡ States.operator (model_of task.now) operator)) }
 {
     let one = task.operators().get(operator)?;
+    // By cases: under `then_some` what the two tests show is known of their `&&` alone.
     if is_state(task, values)
         && one
             .preconditions()

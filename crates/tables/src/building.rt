@@ -65,7 +65,7 @@ fn fill<W: WaitingList<Key = Distance>>(list: &mut W, entries: &mut [u64], graph
 }
 
 // Builds the table of a pattern: at the rank of each projected state the least cost, at these shares, of a run of the
-// projected task to a projected goal state, or the mark.
+// projected task to a projected goal state, or the mark. Task, pattern and shares are given apart, as a caller has them.
 pub fn build<W: WaitingList<Key = Distance>>(
     heap: Global,
     task: &Task,

@@ -28,6 +28,7 @@ impl StateEntries<'_> {
         requires { rank < self.now.graph.now.states }
         ensures { Decides result ((l : ℕ) → Edge (task_of self.now.graph.now) operator rank l → Falls (cost_of self.now.graph.now operator) (height_at (entry self.now.entries.now rank)) (height_at (entry self.now.entries.now l))) }
     {
+        // By cases: the step is shown to be the only one where it is known.
         match self.graph.projection.successor(operator, rank) {
             Some(to) => falls(
                 self.graph.share(operator),

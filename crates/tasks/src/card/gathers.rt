@@ -20,7 +20,7 @@ fn sizes_of<'a>(heap: Global, draft: &Draft<'a>) -> Result<Vec<u8>, AllocError>
     draft.variables.iter().map(|v| v.size).collect(heap)
 }
 
-// What the goal asks, variable by variable.
+// What the goal asks, variable by variable; a draft has at most 16, so that the cast cuts nothing.
 fn goal_of<'a>(heap: Global, draft: &Draft<'a>) -> Result<Vec<Fact>, AllocError>
     ensures { IfOk result (λ v. v.items ≡ (task_of (content (said draft.now))).goal) }
 {
