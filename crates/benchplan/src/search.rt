@@ -3,27 +3,36 @@ use states::{is_goal_rank, state_count, successor};
 use std::alloc::{AllocError, Global};
 use tasks::Task;
 
-// The last step of a way: its operator, and the state that it leads from, by its rank: the number of a state, and no place of
-// an arena.
+// The cheapest way to a state that is known: none, the start's, which has no step and costs nothing, or one by its last step:
+// the operator, and the state that it leads from, by its rank: the number of a state, and no place of an arena.
 #[derive(Clone, Copy)]
-struct Last {
-    operator: usize,
-    from: usize,
+enum Label {
+    Unreached,
+    Start,
+    Reached {
+        cost: u64,
+        operator: usize,
+        from: usize,
+    },
 }
 
-// The cheapest way to a state that is known; the way to the start has no step.
-#[derive(Clone, Copy)]
-struct Label {
-    cost: u64,
-    last: Option<Last>,
+impl Label {
+    // What the way costs, where there is one.
+    fn cost(self) -> Option<u64> {
+        match self {
+            Label::Unreached => None,
+            Label::Start => Some(0),
+            Label::Reached { cost, .. } => Some(cost),
+        }
+    }
 }
 
-// A task with the costs of its operators, and the label of each state that is reached.
+// A task with the costs of its operators, and the label of each state.
 #[derive(Drop)]
 struct Search<'a> {
     task: &'a Task,
     costs: &'a [u16],
-    labels: Vec<Option<Label>>,
+    labels: Vec<Label>,
 }
 
 impl<'a> Search<'a> {
@@ -34,45 +43,44 @@ impl<'a> Search<'a> {
         costs: &'a [u16],
         start: usize,
     ) -> Result<Search<'a>, AllocError> {
-        let labels = vec![in heap; None; state_count(task)]?;
-        let mut search = Search {
+        let mut labels = vec![in heap; Label::Unreached; state_count(task)]?;
+        if let Some(label) = labels.get_mut(start) {
+            *label = Label::Start;
+        }
+        Ok(Search {
             task,
             costs,
             labels,
-        };
-        search.better(
-            start,
-            Label {
-                cost: 0,
-                last: None,
-            },
-        );
-        Ok(search)
+        })
     }
 
-    // Notes a way to `rank` that is cheaper than the one known.
-    fn better(&mut self, rank: usize, new: Label) -> bool {
+    // Notes a way to `rank`, at this cost, that is cheaper than the one known.
+    fn better(&mut self, rank: usize, cost: u64, new: Label) -> bool {
         let Some(known) = self.labels.get_mut(rank) else {
             return false;
         };
-        if known.is_some_and(|label| label.cost <= new.cost) {
+        if known.cost().is_some_and(|least| least <= cost) {
             return false;
         }
-        *known = Some(new);
+        *known = new;
         true
     }
 
     // Follows every operator from `from`.
     fn spread(&mut self, from: usize) -> bool {
-        let Some(Some(label)) = self.labels.get(from).copied() else {
+        let Some(so_far) = self.labels.get(from).and_then(|label| label.cost()) else {
             return false;
         };
         let mut changed = false;
         for (operator, cost) in self.costs.iter().enumerate() {
             if let Some(next) = successor(self.task, operator, from) {
-                let cost = label.cost.saturating_add(u64::from(*cost));
-                let last = Some(Last { operator, from });
-                changed |= self.better(next, Label { cost, last });
+                let cost = so_far.saturating_add(u64::from(*cost));
+                let label = Label::Reached {
+                    cost,
+                    operator,
+                    from,
+                };
+                changed |= self.better(next, cost, label);
             }
         }
         changed
@@ -101,15 +109,10 @@ impl<'a> Search<'a> {
         self.labels
             .iter()
             .enumerate()
-            .filter_map(|(rank, label)| label.map(|label| (rank, label.cost)))
+            .filter_map(|(rank, label)| label.cost().map(|cost| (rank, cost)))
             .filter(|(rank, _)| is_goal_rank(self.task, *rank))
             .min_by_key(|(_, cost)| *cost)
             .map(|(rank, _)| rank)
-    }
-
-    // The last step of the way to `rank`; the start has none.
-    fn last(&self, rank: usize) -> Option<Last> {
-        self.labels.get(rank).copied()??.last
     }
 
     // The steps from the start to `goal`, gone back label by label.
@@ -118,7 +121,7 @@ impl<'a> Search<'a> {
         let mut rank = goal;
         // By count: a way has fewer steps than there are states.
         for _ in 0..self.labels.len() {
-            let Some(Last { operator, from }) = self.last(rank) else {
+            let Some(Label::Reached { operator, from, .. }) = self.labels.get(rank).copied() else {
                 break;
             };
             steps.push(operator)?;

@@ -33,7 +33,8 @@ impl<'a> Draft<'a> {
         name: &'a [u8],
         cost: &'a [u8],
     ) -> Result<(), CardFault>
-        ensures { GivesLine result (said self.new) (add_operator line (said self.old) name.now cost.now) }
+        ensures same { self.new.variables ≡ self.old.variables }
+        ensures told { GivesLine result (said self.new) (add_operator line (said self.old) name.now cost.now) }
     {
         self.may_add_operator(line)?;
         let o = operator_of(heap, line, name, cost)?;
@@ -43,7 +44,8 @@ impl<'a> Draft<'a> {
 
     // A precondition or an effect more for the last operator.
     fn add_part<T: Part>(&mut self, line: usize, texts: ValueTexts<'a>) -> Result<(), CardFault>
-        ensures { GivesLine result (said self.new) (add_part line (said self.old) (add_to T.Valued.of T.Valued.make T.Part.parts T.Part.with_parts line (said self.old).vars texts.entry.variable.now texts.entry.value.now)) }
+        ensures same { self.new.variables ≡ self.old.variables }
+        ensures told { GivesLine result (said self.new) (add_part line (said self.old) (add_to T.Valued.of T.Valued.make T.Part.parts T.Part.with_parts line (said self.old).vars texts.entry.variable.now texts.entry.value.now)) }
     {
         self.may_add_part(line)?;
         // Popped and pushed back: what is added reads the whole draft.
@@ -59,7 +61,8 @@ impl<'a> Draft<'a> {
         line: usize,
         variables: Pieces<'a>,
     ) -> Result<(), CardFault>
-        ensures { GivesLine result (said self.new) (add_pattern line (said self.old) (left variables.entry)) }
+        ensures same { self.new.variables ≡ self.old.variables }
+        ensures told { GivesLine result (said self.new) (add_pattern line (said self.old) (left variables.entry)) }
     {
         self.may_add_pattern(line)?;
         // The draft's ghost field bounds it: `try_from` would need an error that cannot come.

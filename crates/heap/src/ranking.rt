@@ -63,7 +63,11 @@ impl Ranking {
         ensures order { SwappedAt self.old.order.items self.new.order.items i j }
         ensures len { length self.new.order.items ≡ length self.old.order.items }
     {
-        self.spots.swap(self.order[i], self.order[j]);
-        self.order.swap(i, j);
+        // By four writes: a slice's swap reads anew and compares what is known here.
+        let (a, b) = (self.order[i], self.order[j]);
+        self.order[i] = b;
+        self.order[j] = a;
+        self.spots[b] = i;
+        self.spots[a] = j;
     }
 }

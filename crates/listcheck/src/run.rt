@@ -19,7 +19,8 @@ pub(crate) struct Gave<K: Key> {
 
 // Puts a key that is made from a number, and says whether the list took it.
 fn put_at<K: Numbered, W: WaitingList<Key = K>>(w: &mut W, rank: u64, n: u64) -> bool {
-    w.put(rank as usize, K::numbered(n)).is_ok()
+    !w.put(rank as usize, K::numbered(n))
+        .is_err_and(|refusal| refusal.number() == 17)
 }
 
 // Puts and takes in turn. No two ranks have equal keys, and a few ranks are past the capacity. By a loop: what is counted are

@@ -14,7 +14,7 @@ pub(crate) fn is_fit(task: &Task, pattern: &[u8], shares: &[u32]) -> bool
 {
     let count = task.sizes().len();
     !pattern.is_empty()
-        && pattern.iter().all(|v| usize::from(*v) < count)
         && shares.len() == task.operators().len()
+        && pattern.iter().all(|v| usize::from(*v) < count)
         && shares.iter().all(|share| *share <= HIGHEST_SHARE)
 }

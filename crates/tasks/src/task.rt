@@ -9,7 +9,7 @@ mod makes;
 mod reads;
 
 // What an operator asks of a state, and what it does to one.
-#[derive(Clone, Drop)]
+#[derive(Drop)]
 pub struct Operator {
     preconditions: Vec<Precondition>,
     effects: Vec<Fact>,

@@ -13,11 +13,10 @@ impl<K: Key> Heap<K> {
         requires j { j < self.now.count }
         ensures { result ≡ heap_before K.Key.leq self.now (slice_index self.now.ranking.order.items i) (slice_index self.now.ranking.order.items j) }
     {
-        match (self.keys[self.ranking.at(i)], self.keys[self.ranking.at(j)]) {
-            (Some(x), Some(y)) => x.at_most(y),
-            (Some(_), None) => false,
-            (None, _) => true,
-        }
+        let Some(x) = self.keys[self.ranking.at(i)] else {
+            return true;
+        };
+        self.keys[self.ranking.at(j)].is_some_and(|y| x.at_most(y))
     }
 
     // The child of the place `i` whose rank has the lower key.
