@@ -38,10 +38,17 @@ impl Rows {
     pub(crate) fn at(&self, i: usize) -> Row
         ensures { result ≡ row_at (table self.now) i }
     {
-        self.get(i).unwrap_or(Row {
-            cost: 0,
-            barred: false,
-        })
+        // Field by field: a row is written so, and one that was just written is read late as a whole.
+        match self.rows.get(i) {
+            Some(row) => Row {
+                cost: row.cost,
+                barred: row.barred,
+            },
+            None => Row {
+                cost: 0,
+                barred: false,
+            },
+        }
     }
 
     // Each of the three changes lends one row within itself: a helper that lends it to a closure needs a longer clause.

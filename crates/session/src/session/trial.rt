@@ -60,7 +60,9 @@ impl Session {
     {
         let old = self.rows.at(operator);
         let tried = self.tried(operator, cost, barred);
-        self.rows.put(operator, tried.unwrap_or(old));
+        if let Ok(row) = tried {
+            self.rows.put(operator, row);
+        }
         let verdict = tried.map(|_| ());
         Trial {
             session: self,
